@@ -1,0 +1,77 @@
+-- Laws of rows: which number a table gives, and what a refusal leaves. Assumes nothing.
+use Prim.Native.Nat.{ℕ, zero, suc, _≤_, _<_}
+use mathlib.Core.Path.{_≡_, refl, sym, ap, _∙_}
+use mathlib.Core.Logic.{_≢_}
+use mathlib.Core.Bool.{Bool, true, false, not, _&&_, cond, true≢false}
+use mathlib.Core.List.{List, [], _∷_}
+use native.Mathlib.Omega.{arith}
+use lib.Dec.{eqb}
+use lib.ListN.{getD}
+use borrow.Author.Tests.{eqb-true, eqb-false, eq-eqb, ne-eqb}
+use Rattle.answers.specs.Rows.{all, Row, row, first, Outcome, outcome, refused, unless}
+
+-- a test whose truth is absurd is false
+pub refuted : (b : Bool) → (b ≡ true → ⊥) → b ≡ false
+refuted true h = absurd (h refl)
+refuted false h = refl
+
+pub and-left : (a b : Bool) → a && b ≡ true → a ≡ true
+and-left true b e = refl
+and-left false b e = e
+
+pub and-right : (a b : Bool) → a && b ≡ true → b ≡ true
+and-right true b e = e
+and-right false b e = absurd (true≢false (sym e))
+
+-- of a list of tests that all hold, the one at i
+pub all-at : (l : List Bool) (i : ℕ) → all l ≡ true → getD l i true ≡ true
+unfolding all
+all-at [] i e = refl
+all-at (b ∷ l) zero e = and-left b (all l) e
+all-at (b ∷ l) (suc i) e = all-at l i (and-right b (all l) e)
+
+-- what a call's promise and the test of its result say of the promised value
+pub by : {r b v : Bool} → r ≡ b → r ≡ v → b ≡ v
+by p q = sym p ∙ q
+
+pub by-not : {r b v : Bool} → r ≡ b → not r ≡ v → b ≡ not v
+by-not p q = sym p ∙ sym (not-not _) ∙ ap not q
+  where
+    not-not : (r : Bool) → not (not r) ≡ r
+    not-not true = refl
+    not-not false = refl
+
+-- ---- the first row that applies
+
+pub first-at : (r : Row) (rows : List Row) → r .applies ≡ true → first (r ∷ rows) ≡ r .number
+unfolding first
+first-at r rows e = simp e
+
+pub first-past : (r : Row) (rows : List Row) → r .applies ≡ false → first (r ∷ rows) ≡ first rows
+unfolding first
+first-past r rows e = simp e
+
+-- no row applies
+pub first-none : (number : ℕ) (applies : Bool) (rows : List Row) → number ≢ 0 → first (row number applies ∷ rows) ≡ 0 → (applies ≡ false) × (first rows ≡ 0)
+unfolding first
+first-none number true rows n e = absurd (n e)
+first-none number false rows n e = (refl, e)
+
+-- ---- a refusal, and an act
+
+module _ {C : Type 0} (c : C) (act : Outcome C) where
+  -- refused by a number that is not 0
+  pub unless-refused : (k : ℕ) → k ≢ 0 → unless k c act ≡ refused k c
+  unless-refused k h = simp (ne-eqb _ _ h)
+
+  -- not refused
+  pub unless-done : (k : ℕ) → k ≡ 0 → unless k c act ≡ act
+  unless-done k h = simp (eq-eqb _ _ h)
+
+  -- what holds before, and after the act where nothing refuses, holds afterwards
+  pub unless-either : (P : C → Type 0) (k : ℕ) → P c → (k ≡ 0 → P (act .after)) → P (unless k c act .after)
+  unless-either P k p q = go (eqb k 0) refl
+    where
+      go : (b : Bool) → eqb k 0 ≡ b → P (cond b act (refused k c) .after)
+      go true e = q (eqb-true k 0 e)
+      go false e = p

@@ -1,0 +1,15 @@
+-- `bitmap::count::ones_of` meets its contract. Assumes nothing.
+use borrow.Author.Needs.{needs}
+use native.Mathlib.Omega.{arith}
+use lib.Count.{ones-le}
+use Rattle.bitmap.proofs.count.ones_of.Statement.{statement}
+use Rattle.bitmap.proofs.count.ones_of.Tie as tie
+
+cast-result : tie.Need-cast-result
+cast-result c = omega (arith, ones-le 64 (c .args .word) (c .fits .word .fits))
+
+returns : tie.Need-returns
+returns c = search needs
+
+pub ones-of-spec : {M : Type 1} → statement M
+ones-of-spec = tie.close (tie.spec cast-result returns)

@@ -1,0 +1,5 @@
+pub mod Limits
+pub mod Page
+pub mod Walk
+pub mod Sequences
+pub mod Keeps

@@ -1,0 +1,2 @@
+pub mod Tagged
+pub mod Digits
