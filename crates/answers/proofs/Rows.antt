@@ -57,6 +57,21 @@ unfolding first
 first-none number true rows n e = absurd (n e)
 first-none number false rows n e = (refl, e)
 
+-- two tables that agree row by row, as far as no row above applies
+pub data Agree : List Row → List Row → Type 0 where
+  none : Agree [] []
+  then : (number : ℕ) {a b : Bool} {rows others : List Row} → a ≡ b → (a ≡ false → Agree rows others) → Agree (row number a ∷ rows) (row number b ∷ others)
+
+-- they give the same number
+pub first-agree : {rows others : List Row} → Agree rows others → first rows ≡ first others
+unfolding first
+first-agree none = refl
+first-agree (then number {a} {b} {rows} {others} e f) = go a e (λ z. first-agree (f z))
+  where
+    go : (a : Bool) → a ≡ b → (a ≡ false → first rows ≡ first others) → first (row number a ∷ rows) ≡ first (row number b ∷ others)
+    go true e f = rw (← e)
+    go false e f = rw (← e) (f refl)
+
 -- ---- a refusal, and an act
 
 module _ {C : Type 0} (c : C) (act : Outcome C) where

@@ -20,6 +20,7 @@ at-word bits w k h =
     let f : (w * 64 + k) % 64 ≡ k = omega arith in
     rw (e, f)
 
+-- words that agree in every bit are the same
 pub by-bits : (x y : List ℕ) → Words x → Words y → length x ≡ length y → ((i : ℕ) → bitAt x i ≡ bitAt y i) → x ≡ y
 unfolding Words
 by-bits x y wx wy e h =

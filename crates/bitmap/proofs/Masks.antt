@@ -33,7 +33,7 @@ unfolding bitPut
 zero-clear [] h = refl
 zero-clear (w ∷ bits) h = and-not-puts w 0 h (omega arith)
 
--- no other word has bit 0
+-- and leaves every other word
 pub zero-other : (bits : List ℕ) (w b : ℕ) → w ≢ 0 → getD (bitPut bits 0 b) w 0 ≡ getD bits w 0
 unfolding bitPut
 zero-other bits w b h = getD-set-other bits 0 w _ 0 h
@@ -43,6 +43,7 @@ pub zero-set : (bits : List ℕ) → bitOr (getD bits 0 0) 1 ≡ withZero bits 0
 unfolding withZero
 zero-set bits = or-puts (getD bits 0 0) 0 (omega arith)
 
+-- and no other word has it
 pub zero-set-other : (bits : List ℕ) (w : ℕ) → w ≢ 0 → getD bits w 0 ≡ withZero bits w
 unfolding withZero
 zero-set-other bits zero h = absurd (h refl)

@@ -45,6 +45,7 @@ unfolding countBelow listedCount
 below-listed bits zero = refl
 below-listed bits (suc n) = omega (arith, below-listed bits n)
 
+-- a digit is its own count
 ones-small : (d : ℕ) → d < 2 → ones d ≡ d
 unfolding ones
 ones-small zero h = refl
@@ -71,14 +72,16 @@ below-word bits w (suc k) h =
     ∙ add-assoc _ _ _
     ∙ ap (λ (x : ℕ). countBelow bits (w * 64) + x) (sym (ones-more (getD bits w 0) k))
 
--- a whole word
-pub below-whole : (bits : List ℕ) (w : ℕ) → getD bits w 0 < 2 ^ 64 → countBelow bits ((w + 1) * 64) ≡ countBelow bits (w * 64) + ones (getD bits w 0)
-below-whole bits w h =
-    let e : (w + 1) * 64 ≡ w * 64 + 64 = omega arith in
-    ap (countBelow bits) e ∙ below-word bits w 64 (omega arith) ∙ ap (λ (x : ℕ). countBelow bits (w * 64) + ones x) (mod-eq-of-lt h)
+-- one more word v on the sum s of the words before it
+pub below-more : (bits : List ℕ) (w s v : ℕ) → s ≡ countBelow bits (w * 64) → v ≡ getD bits w 0 → v < 2 ^ 64 → s + ones v ≡ countBelow bits ((w + 1) * 64)
+below-more bits w s v p q h =
+    let e : w * 64 + 64 ≡ (w + 1) * 64 = omega arith in
+    ap₂ (λ (x y : ℕ). x + ones y) p (sym (mod-eq-of-lt h) ∙ ap (λ (x : ℕ). x % 2 ^ 64) q)
+    ∙ sym (below-word bits w 64 (omega arith)) ∙ ap (countBelow bits) e
 
--- ---- the count after a bit is put
+-- ---- the listed count, and the count after a bit is put
 
+-- it goes by the bits 1 to n
 pub listed-same : (x y : List ℕ) (n : ℕ) → ((j : ℕ) → 0 < j → j ≤ n → bitAt x j ≡ bitAt y j) → listedCount x n ≡ listedCount y n
 unfolding listedCount
 listed-same x y zero h = refl
@@ -112,13 +115,13 @@ below-is-listed : (bits : List ℕ) (n : ℕ) → countBelow (bitPut bits 0 0) (
 below-is-listed bits n =
     omega (arith, below-listed (bitPut bits 0 0) n, listed-put-out bits n 0 0 (omega arith) (λ p. absurd (omega arith)), at-clear bits 0)
 
--- the words before n's, and n's own up to bit n
-pub listed-last : (bits : List ℕ) (n : ℕ)
-    → countBelow (bitPut bits 0 0) (n / 64 * 64) + ones (getD (bitPut bits 0 0) (n / 64) 0 % 2 ^ (bitAnd n 63 + 1)) ≡ listedCount bits n
-listed-last bits n =
-    let e : n / 64 * 64 + (n % 64 + 1) ≡ suc n = omega arith in
-    rw (and-mask n 6)
-    (sym (below-word (bitPut bits 0 0) (n / 64) (n % 64 + 1) (omega arith)) ∙ ap (countBelow (bitPut bits 0 0)) e ∙ below-is-listed bits n)
+-- the word v of n, up to bit n, on the sum s of the words before it
+pub listed-last : (bits : List ℕ) (n w s v : ℕ) → w ≡ n / 64 → s ≡ countBelow (bitPut bits 0 0) (w * 64) → v ≡ getD (bitPut bits 0 0) w 0
+    → s + ones (v % 2 ^ (bitAnd n 63 + 1)) ≡ listedCount bits n
+listed-last bits n w s v d p q =
+    let e : w * 64 + (n % 64 + 1) ≡ suc n = omega arith in
+    ap₂ (λ (x y : ℕ). x + ones (y % 2 ^ (bitAnd n 63 + 1))) p q
+    ∙ rw (and-mask n 6) (sym (below-word (bitPut bits 0 0) w (n % 64 + 1) (omega arith)) ∙ ap (countBelow (bitPut bits 0 0)) e ∙ below-is-listed bits n)
 
 -- all words, where n is past them
 pub listed-end : (bits : List ℕ) (w n : ℕ) → length bits ≤ w → w ≤ n / 64 → countBelow (bitPut bits 0 0) (w * 64) ≡ listedCount bits n

@@ -54,19 +54,31 @@ run-past bits a k (suc m) b h l = pick (ℕ-discrete k (suc m)) (λ g. run-past 
     pick (yes e) ih = ap (λ (x : ℕ). putRun bits a x b) (sym e)
     pick (no n) ih = put-out (putRun bits a m b) (a + m) b (omega (arith, run-length bits a m b)) ∙ ih (omega arith)
 
--- a set bit in the run is seen
-pub any-at : (bits : List ℕ) (a m k : ℕ) → k < m → eqb (bitAt bits (a + k)) 1 ≡ true → anySet bits a m ≡ true
+-- one of the m numbers from a on that is such is seen
+pub from-at : (is : ℕ → Bool) (a m k : ℕ) → k < m → is (a + k) ≡ true → anyFrom is a m ≡ true
 unfolding anyFrom
-any-at bits a zero k l e = absurd (omega arith)
-any-at bits a (suc m) k l e = pick (ℕ-discrete k m) (λ g. any-at bits a m k g e)
+from-at is a zero k l e = absurd (omega arith)
+from-at is a (suc m) k l e = pick (ℕ-discrete k m) (λ g. from-at is a m k g e)
   where
     or-right : (x y : Bool) → y ≡ true → (x || y) ≡ true
     or-right true y q = refl
     or-right false y q = q
 
-    pick : Dec (k ≡ m) → (k < m → anySet bits a m ≡ true) → (anySet bits a m || eqb (bitAt bits (a + m)) 1) ≡ true
-    pick (yes q) ih = or-right (anySet bits a m) _ (ap (λ (x : ℕ). eqb (bitAt bits (a + x)) 1) (sym q) ∙ e)
-    pick (no n) ih = ap (λ (x : Bool). x || eqb (bitAt bits (a + m)) 1) (ih (omega arith))
+    pick : Dec (k ≡ m) → (k < m → anyFrom is a m ≡ true) → (anyFrom is a m || is (a + m)) ≡ true
+    pick (yes q) ih = or-right (anyFrom is a m) (is (a + m)) (ap (λ (x : ℕ). is (a + x)) (sym q) ∙ e)
+    pick (no n) ih = ap (λ (x : Bool). x || is (a + m)) (ih (omega arith))
+
+-- where none is seen, none of them is such
+pub from-none : (is : ℕ → Bool) (a m : ℕ) → anyFrom is a m ≡ false → (k : ℕ) → k < m → is (a + k) ≡ false
+from-none is a m e k l = pick (is (a + k)) refl
+  where
+    pick : (b : Bool) → is (a + k) ≡ b → is (a + k) ≡ false
+    pick true s = absurd (true≢false (sym (from-at is a m k l s) ∙ e))
+    pick false s = s
+
+-- a set bit in the run is seen
+pub any-at : (bits : List ℕ) (a m k : ℕ) → k < m → eqb (bitAt bits (a + k)) 1 ≡ true → anySet bits a m ≡ true
+any-at bits a m k l e = from-at (λ i. eqb (bitAt bits i) 1) a m k l e
 
 -- one clear bit more
 pub any-more : (bits : List ℕ) (a k : ℕ) → anySet bits a k ≡ false → eqb (bitAt bits (a + k)) 1 ≡ false → anySet bits a (k + 1) ≡ false
@@ -75,11 +87,7 @@ any-more bits a k e f = ap (anySet bits a) (add-one k) ∙ ap (λ (x : Bool). x 
 
 -- where none is seen, every bit of the run is clear
 pub any-none : (bits : List ℕ) (a m : ℕ) → anySet bits a m ≡ false → (k : ℕ) → k < m → bitAt bits (a + k) ≡ 0
-any-none bits a m e k l = pick (eqb (bitAt bits (a + k)) 1) refl
-  where
-    pick : (b : Bool) → eqb (bitAt bits (a + k)) 1 ≡ b → bitAt bits (a + k) ≡ 0
-    pick true s = absurd (true≢false (sym (any-at bits a m k l s) ∙ e))
-    pick false s = is-zero bits (a + k) s
+any-none bits a m e k l = is-zero bits (a + k) (from-none (λ i. eqb (bitAt bits i) 1) a m e k l)
 
 -- past the slice's end none is set
 pub any-past : (bits : List ℕ) (a k m : ℕ) → k ≤ m → length bits ≤ (a + k) / 64 → anySet bits a k ≡ false → anySet bits a m ≡ false

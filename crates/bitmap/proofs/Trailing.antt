@@ -59,7 +59,7 @@ SetBelow bits m = (j : ℕ) → 0 < j → j < m → bitAt bits j ≡ 1
 
 -- block i is the smallest that is not
 pub record Smallest (bits : List ℕ) (i : ℕ) : Type 0 where
-  pub first : 0 < i
+  pub pos : 0 < i
   pub clear : bitAt bits i ≡ 0
   pub before : SetBelow bits i
 
@@ -93,7 +93,7 @@ word-below bits w k f s j p l = pick (decLt j (w * 64))
 pub word-smallest : (bits : List ℕ) (w k : ℕ) → FirstClear (withZero bits w) k → SetBelow bits (w * 64) → k < 64 → Smallest bits (w * 64 + k)
 word-smallest bits w k f s h =
     let p : 0 < w * 64 + k = zero-never bits w k (f .here h) in
-    record { first = p; clear = sym (zero-digit bits w k h p) ∙ f .here h; before = word-below bits w k f s }
+    record { pos = p; clear = sym (zero-digit bits w k h p) ∙ f .here h; before = word-below bits w k f s }
 
 -- ---- the search
 
@@ -120,7 +120,7 @@ from-none bits i (suc f) s =
 -- the smallest unlisted block is found where it is within n
 pub first-is : (bits : List ℕ) (n i : ℕ) → Smallest bits i → i ≤ n → firstUnlisted bits n ≡ i
 first-is bits n i s l =
-    let p : 0 < i = s .first in
+    let p : 0 < i = s .pos in
     let e : 1 + (i - 1) ≡ i = omega arith in
     from-is bits 1 n (i - 1) (omega arith) (λ j h. s .before (1 + j) (omega arith) (omega arith)) (ap (bitAt bits) e ∙ s .clear) ∙ e
 
@@ -142,7 +142,7 @@ either bits zero = inl (λ j p l. absurd (omega arith))
 either bits (suc n) = ⊎-elim (λ s. pick s (ℕ-discrete (bitAt bits (suc n)) 0)) (λ f. inr (f .0, f .1, omega (arith, f .2))) (either bits n)
   where
     pick : SetBelow bits (n + 1) → Dec (bitAt bits (suc n) ≡ 0) → SetBelow bits (suc n + 1) ⊎ ((i : ℕ) × Smallest bits i × i ≤ suc n)
-    pick s (yes z) = inr (suc n, record { first = omega arith; clear = z; before = λ j p l. s j p (omega arith) }, omega arith)
+    pick s (yes z) = inr (suc n, record { pos = omega arith; clear = z; before = λ j p l. s j p (omega arith) }, omega arith)
     pick s (no z) = inl (λ j p l. more j p l (ℕ-discrete j (suc n)))
       where
         more : (j : ℕ) → 0 < j → j < suc n + 1 → Dec (j ≡ suc n) → bitAt bits j ≡ 1
@@ -161,4 +161,4 @@ pub first-none : (bits : List ℕ) (n : ℕ) → firstUnlisted bits n ≡ 0 ↔ 
 first-none bits n = (λ e. ⊎-elim (λ s j p l. s j p (omega arith)) (λ f. absurd (found e f)) (either bits n), λ s. first-all bits n (λ j p l. s j p (omega arith)))
   where
     found : firstUnlisted bits n ≡ 0 → (i : ℕ) × Smallest bits i × i ≤ n → ⊥
-    found e f = omega (arith, f .1 .first, first-is bits n (f .0) (f .1) (f .2))
+    found e f = omega (arith, f .1 .pos, first-is bits n (f .0) (f .1) (f .2))

@@ -17,16 +17,16 @@ pub fn any_set(bits: &[u64], a: u64, b: u64) -> bool
     ensures { λ r. ⌜ r ≡ anySet (now (bits .entry)) a (runLength a b) ⌝ }
 {
     let m = reach(a, b);
-    let mut k: u64 = 0;
-    while k < m {
-        let i = a + k;
+    let mut seen: u64 = 0;
+    while seen < m {
+        let i = a + seen;
         if bits.len() as u64 <= i >> 6 {
             return false;
         }
         if is_set(bits, i) {
             return true;
         }
-        k += 1;
+        seen += 1;
     }
     false
 }
@@ -36,13 +36,13 @@ pub fn set_run(bits: &mut [u64], a: u64, b: u64)
     ensures { λ r. ⌜ now (bits .exit) ≡ putRun (now (bits .entry)) a (runLength a b) 1 ⌝ }
 {
     let m = reach(a, b);
-    let mut k: u64 = 0;
-    while k < m {
-        let i = a + k;
+    let mut done: u64 = 0;
+    while done < m {
+        let i = a + done;
         if bits.len() as u64 <= i >> 6 {
             return;
         }
         set(&mut *bits, i);
-        k += 1;
+        done += 1;
     }
 }

@@ -1,14 +1,12 @@
 -- `bitmap::count::listed_count` meets its contract. The loop's invariant: `sum` counts the bits of the words passed, bit 0 left out, and n's word is not passed. Assumes nothing.
 use mathlib.Core.Path.{_≡_, ap, _∙_}
-use mathlib.Core.List.{List}
-use Prim.Native.Nat.{ℕ, _+_, _-_, _*_, _/_, _%_, _^_, _≤_, _<_}
+use Prim.Native.Nat.{ℕ, _+_, _-_, _*_, _≤_}
 use borrow.Author.Needs.{needs}
 use native.Mathlib.Omega.{arith}
-use lib.Bits.{bitAnd, and-mask}
-use lib.Count.{ones}
-use lib.ListN.{length, getD}
+use lib.Bits.{and-mask}
+use lib.ListN.{length}
 use Rattle.bitmap.specs.Bitmap.{bitPut, listedCount}
-use Rattle.bitmap.proofs.Ones.{countBelow, below-le, below-whole, listed-last, listed-end, listed-le}
+use Rattle.bitmap.proofs.Ones.{countBelow, below-le, below-more, listed-last, listed-end, listed-le}
 use Rattle.bitmap.proofs.count.listed_count.Statement.{statement}
 use Rattle.bitmap.proofs.count.listed_count.Tie as tie
 
@@ -35,10 +33,8 @@ total : (c : tie.After-ones-to Inv-loop μ-loop)
 total c =
     let a = c .before .before .before .before .before .before .args in
     let l = c .before .before .before .before .loop in
-    let x : List ℕ = bitPut (a .bits .now) 0 0 in
-    let e : l .w ≡ a .n / 64 = c .before .if1 .taken in
-    let v : c .before .before .without-zero .result ≡ getD x (a .n / 64) 0 = c .before .before .without-zero .ensures ∙ ap (λ (w : ℕ). getD x w 0) e in
-    omega (arith, c .ones-to .ensures ∙ ap (λ (w : ℕ). ones (w % 2 ^ (bitAnd (a .n) 63 + 1))) v, l .inv .2 ∙ ap (λ (w : ℕ). countBelow x (w * 64)) e, listed-last (a .bits .now) (a .n))
+    ap (λ (r : ℕ). l .sum + r) (c .ones-to .ensures)
+    ∙ listed-last (a .bits .now) (a .n) (l .w) _ _ (c .before .if1 .taken) (l .inv .2) (c .before .before .without-zero .ensures)
 
 add-result : tie.Need-add-result Inv-loop μ-loop
 add-result c =
@@ -57,10 +53,8 @@ more : (c : tie.After-ones-of Inv-loop μ-loop)
     ≡ countBelow (bitPut (c .before .before .before .before .before .before .args .bits .now) 0 0) ((c .before .before .before .before .loop .w + 1) * 64)
 more c =
     let l = c .before .before .before .before .loop in
-    let x : List ℕ = bitPut (c .before .before .before .before .before .before .args .bits .now) 0 0 in
-    let v : c .before .before .without-zero .result ≡ getD x (l .w) 0 = c .before .before .without-zero .ensures in
-    let f : getD x (l .w) 0 < 2 ^ 64 = omega arith in
-    omega (arith, c .ones-of .ensures ∙ ap ones v, l .inv .2, below-whole x (l .w) f)
+    ap (λ (r : ℕ). l .sum + r) (c .ones-of .ensures)
+    ∙ below-more _ (l .w) _ _ (l .inv .2) (c .before .before .without-zero .ensures) (omega (arith, c .before .before .without-zero .ok))
 
 add-sum : tie.Need-add-sum Inv-loop μ-loop
 add-sum c =
@@ -74,7 +68,7 @@ loop-less : tie.Need-loop-less Inv-loop μ-loop
 loop-less c = search needs
 
 loop-again : tie.Need-loop-again Inv-loop μ-loop
-loop-again c = (search needs, omega (arith, c .before .if1 .left), more c)
+loop-again c = (search needs, search needs, more c)
 
 returns-2 : tie.Need-returns-2 Inv-loop μ-loop
 returns-2 c =

@@ -51,7 +51,7 @@ loop-less c = search needs
 
 loop-again : tie.Need-loop-again Inv-loop μ-loop
 loop-again c =
-    (search needs, λ j p l. word-below _ _ _ (look (c .before)) (c .before .before .before .before .loop .inv .1) j p (omega (arith, c .if1 .left)))
+    (search needs, λ j p l. word-below _ _ _ (look (c .before)) (c .before .before .before .before .loop .inv .1) j p (omega arith))
 
 returns-2 : tie.Need-returns-2 Inv-loop μ-loop
 returns-2 c =

@@ -1,4 +1,4 @@
--- `bitmap::runs::any_set` meets its contract. The loop's invariant: none of the k bits passed is set. Assumes nothing.
+-- `bitmap::runs::any_set` meets its contract. The loop's invariant: none of the bits seen is set. Assumes nothing.
 use mathlib.Core.Path.{_≡_, refl, sym, ap, _∙_}
 use mathlib.Core.Bool.{false}
 use Prim.Native.Nat.{_-_, _≤_}
@@ -10,10 +10,10 @@ use Rattle.bitmap.proofs.runs.any_set.Statement.{statement}
 use Rattle.bitmap.proofs.runs.any_set.Tie as tie
 
 abbrev Inv-loop : tie.InvT-loop
-Inv-loop bits a b m k₀ k = (k ≤ m) × (anySet bits a k ≡ false)
+Inv-loop bits a b m seen₀ seen = (seen ≤ m) × (anySet bits a seen ≡ false)
 
 abbrev μ-loop : tie.MeasureT-loop
-μ-loop bits a b m k₀ k = m - k
+μ-loop bits a b m seen₀ seen = m - seen
 
 reach-requires : tie.Need-reach-requires Inv-loop μ-loop
 reach-requires c κs = search needs
@@ -23,13 +23,13 @@ unfolding anyFrom
 loop-holds c = (search needs, refl)
 
 add-i : tie.Need-add-i Inv-loop μ-loop
-add-i c = omega (arith, c .before .before .reach .ensures)
+add-i c = search needs
 
 returns : tie.Need-returns Inv-loop μ-loop
 returns c =
     let a = c .before .before .before .before .before .args in
     let l = c .before .before .loop in
-    sym (any-past (a .bits .now) (a .a) (l .k) (runLength (a .a) (a .b)) (omega (arith, c .before .before .before .reach .ensures)) (c .if1 .taken) (l .inv .1))
+    sym (any-past (a .bits .now) (a .a) (l .seen) (runLength (a .a) (a .b)) (omega arith) (c .if1 .taken) (l .inv .1))
 
 is-set-requires : tie.Need-is-set-requires Inv-loop μ-loop
 is-set-requires c κs = search needs
@@ -38,11 +38,11 @@ returns-2 : tie.Need-returns-2 Inv-loop μ-loop
 returns-2 c =
     let a = c .before .before .before .before .before .before .before .args in
     sym
-    (any-at (a .bits .now) (a .a) (runLength (a .a) (a .b)) (c .before .before .before .before .loop .k) (omega (arith, c .before .before .before .before .before .reach .ensures))
+    (any-at (a .bits .now) (a .a) (runLength (a .a) (a .b)) (c .before .before .before .before .loop .seen) (omega arith)
     (sym (c .before .is-set .ensures) ∙ c .if2 .taken))
 
-add-k : tie.Need-add-k Inv-loop μ-loop
-add-k c = search needs
+add-seen : tie.Need-add-seen Inv-loop μ-loop
+add-seen c = search needs
 
 loop-less : tie.Need-loop-less Inv-loop μ-loop
 loop-less c = search needs
@@ -55,7 +55,7 @@ returns-3 : tie.Need-returns-3 Inv-loop μ-loop
 returns-3 c =
     let a = c .before .before .before .before .args in
     let l = c .before .loop in
-    let e : l .k ≡ runLength (a .a) (a .b) = omega (arith, c .before .before .reach .ensures) in
+    let e : l .seen ≡ runLength (a .a) (a .b) = omega arith in
     sym (ap (anySet (a .bits .now) (a .a)) (sym e) ∙ l .inv .1)
 
 pub any-set-spec : {M : Type 1} → statement M
@@ -70,7 +70,7 @@ any-set-spec =
     returns
     is-set-requires
     returns-2
-    add-k
+    add-seen
     loop-less
     loop-again
     returns-3)
