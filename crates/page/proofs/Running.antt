@@ -4,18 +4,20 @@ use mathlib.Core.Path.{_≡_, refl, sym, ap, _∙_, subst}
 use mathlib.Core.Logic.{_≢_}
 use mathlib.Core.Bool.{Bool, true, false, cond, true≢false}
 use mathlib.Core.List.{List, [], _∷_, _++_}
-use native.Mathlib.Nat.{mul-pos}
+use native.Mathlib.Nat.{mul-pos, zero-add}
 use native.Mathlib.Omega.{arith}
 use lib.Dec.{eqb}
 use lib.ListN.{length, getD, set}
 use borrow.Author.Tests.{eqb-true, eqb-false, ne-eqb}
 use Rattle.bitmap.specs.Bitmap.{bitAt}
 use Rattle.bitmap.proofs.Bits.{bit-lt}
+use Rattle.page.specs.declared.Walked.{Walked}
 use Rattle.page.specs.Page.{Lent, lent, Rules, place, addressOf, blockOf, linkAt, soundIn}
-use Rattle.page.specs.Walk.{Walk, ended, broken, then, walkFrom, walkOf, lastOf}
+use Rattle.page.specs.Walk.{Walk, ended, broken, then, walkFrom, walkOf, lastOf, tally}
 use Rattle.page.specs.Sequences.{times, Each, Once, Apart, Chain, headOf, laid, Listed, Runs, Stays, OthersStay, OthersRun}
 use Rattle.page.proofs.Rules.{block-address, address-place, address-some, place-apart, place-inside, sound-zero, sound-facts, sound-test}
-use Rattle.page.proofs.Counting.{times-append, each-head, each-tail, each-cons, each-append, length-le}
+use Rattle.page.proofs.Steps.{walked}
+use Rattle.page.proofs.Counting.{times-append, each-head, each-tail, each-cons, each-append, last-in, length-le}
 use Rattle.page.proofs.Chains.{Places, linkOf, chain-agree, chain-one, chain-once, chain-laid, chain-append, laid-other}
 
 -- blocks from 1 on start above word 0, at words of their own
@@ -137,6 +139,33 @@ run-walk c (suc room) h e = go (eqb h 0) refl (soundIn c h) refl e (run-walk c r
     go true q d t p ih = at-end c h (eqb-true h 0 q)
     go false q true t p ih = one-more c h (rest .blocks) (eqb-false h 0 q) t (ih p)
     go false q false t p ih = absurd (true≢false (sym p))
+
+-- the last block of a list that runs, or 0 where it has none, is at most n
+pub run-last : (c : Lent) (h : ℕ) (xs : List ℕ) → Runs c h xs → lastOf 0 xs ≤ c .n
+unfolding lastOf
+run-last c h [] x = omega arith
+run-last c h (i ∷ xs) x = x .listed (lastOf i xs) (last-in i xs) .high
+
+-- ---- what is told of a walk
+
+module _ (w : Walk) {m : Walked} (e : m ≡ tally 0 0 w) where
+  -- whether it came to 0
+  pub told-ends : m .sound ≡ w .ends
+  unfolding tally
+  told-ends = ap (λ (x : Walked). x .sound) e ∙ go (w .ends)
+    where
+      go : (b : Bool) → cond b (walked true (0 + length (w .blocks)) (lastOf 0 (w .blocks))) (walked false 0 0) .sound ≡ b
+      go true = refl
+      go false = refl
+
+  -- where it did, how many blocks it met, and the last of them
+  pub told-count : w .ends ≡ true → m .count ≡ length (w .blocks)
+  unfolding tally
+  told-count t = ap (λ (x : Walked). x .count) e ∙ simp (t, zero-add)
+
+  pub told-last : w .ends ≡ true → m .last ≡ lastOf 0 (w .blocks)
+  unfolding tally
+  told-last t = ap (λ (x : Walked). x .last) e ∙ simp t
 
 -- ---- blocks laid before a list, and one list before another
 
