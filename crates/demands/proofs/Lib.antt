@@ -1,0 +1,15 @@
+pub mod Facts
+pub mod Change
+pub mod Refusals
+pub mod AtOnce
+pub mod Starts
+pub mod Requests
+pub mod Undamaged
+pub mod Turns
+pub mod Moves
+pub mod Switching
+pub mod Events
+pub mod Saying
+pub mod Notes
+pub mod Interleaving
+pub mod Standing

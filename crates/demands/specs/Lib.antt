@@ -1,0 +1,4 @@
+pub mod Simple
+pub mod Moments
+pub mod Relation
+pub mod Every

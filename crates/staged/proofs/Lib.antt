@@ -1,0 +1,5 @@
+pub mod PairArms
+pub mod StartArms
+pub mod DamageArms
+pub mod StageArms
+pub mod MoveArms

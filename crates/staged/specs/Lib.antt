@@ -1,0 +1,4 @@
+pub mod Operations
+pub mod Start
+pub mod Damage
+pub mod Moves
