@@ -13,3 +13,6 @@ pub mod Saying
 pub mod Notes
 pub mod Interleaving
 pub mod Standing
+pub mod Trails
+pub mod WrongMachines
+pub mod Table

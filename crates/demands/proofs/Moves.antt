@@ -22,7 +22,7 @@ use Rattle.page.proofs.Running.{run-push, run-none, run-front, run-zero}
 use Rattle.staged.specs.declared.Worker.{Worker}
 use Rattle.staged.specs.Operations.{pushShared, takeShared, pushTagged, takeTagged, setTag, askTag, awaitTag, loading, writing, exchanging, swapping, masking, maxSightings, pushesB, onSharedB, wordOf, rested}
 use Rattle.staged.specs.Damage.{turn}
-use Rattle.staged.specs.Moves.{loadAsk, loadAwait, loadAct, writeAct, newWord, exchangeValue, exchangeAct, swapAct, maskAct, moveAct}
+use Rattle.staged.specs.Moves.{loadAsk, loadAwait, loadAct, writeAct, failsB, newWord, exchangeValue, exchangeAct, swapAct, maskAct, moveAct}
 use Rattle.machine.specs.Config.{Config, lentOf, workerOf, turnOf, putTurn, over}
 use Rattle.demands.specs.Simple.{Simple, Hands, handsOf, heldBy, front, rests, holds}
 use Rattle.demands.specs.Simple as simple
@@ -73,7 +73,7 @@ module _ (c : Config) (s : Simple) (m : Sim c s) (w : ℕ) (l : w < c .state .w)
 
   push-shared : mine .hand ≡ k .hand ∷ [] → k .operation ≡ pushShared → mine .note ≡ pushShared → Listed (lentOf c) (k .hand)
       → (k .stage ≡ loading) ⊎ (tagOf (k .seen) ≡ 0) → Pushing (lentOf c) k → Moved
-  unfolding moveAct loadAct writeAct exchangeAct actOf endsAtLoad wordOf pushesB onSharedB newWord exchangeValue simple.act
+  unfolding moveAct loadAct writeAct exchangeAct failsB actOf endsAtLoad wordOf pushesB onSharedB newWord exchangeValue simple.act
   push-shared hand op note g even (loads st) =
       rw (op, st)
       (record {
@@ -120,7 +120,7 @@ module _ (c : Config) (s : Simple) (m : Sim c s) (w : ℕ) (l : w < c .state .w)
 
   push-tagged : mine .hand ≡ k .hand ∷ [] → k .operation ≡ pushTagged → mine .note ≡ pushTagged → Listed (lentOf c) (k .hand)
       → c .state .on ≡ true → Pushing (lentOf c) k → Moved
-  unfolding moveAct loadAct writeAct exchangeAct actOf endsAtLoad wordOf pushesB onSharedB newWord exchangeValue simple.act
+  unfolding moveAct loadAct writeAct exchangeAct failsB actOf endsAtLoad wordOf pushesB onSharedB newWord exchangeValue simple.act
   push-tagged hand op note g on (loads st) =
       rw (op, st)
       (record { sim = stage-changes c s m w l _ refl refl (pushingTagged hand refl note g on (writes refl seen-tagged)); number = refl; value = refl })
@@ -225,7 +225,7 @@ module _ (c : Config) (s : Simple) (m : Sim c s) (w : ℕ) (l : w < c .state .w)
 
   set-tag : mine .hand ≡ [] → k .operation ≡ setTag → mine .note ≡ setTag → k .tag ≡ mine .want → k .tag ≤ 3 → c .state .on ≡ true
       → (k .stage ≡ loading) ⊎ ((k .stage ≡ exchanging) × Seen (lentOf c) (k .seen)) → Moved
-  unfolding moveAct loadAct loadAsk exchangeAct actOf endsAtLoad wordOf pushesB onSharedB newWord exchangeValue simple.act
+  unfolding moveAct loadAct loadAsk exchangeAct failsB actOf endsAtLoad wordOf pushesB onSharedB newWord exchangeValue simple.act
   set-tag hand op note want small on (inl st) =
       rw (op, st)
       (record { sim = stage-changes c s m w l _ refl refl (setting hand refl note want small on (inr (refl, seen-tagged))); number = refl; value = refl })
@@ -252,7 +252,7 @@ module _ (c : Config) (s : Simple) (m : Sim c s) (w : ℕ) (l : w < c .state .w)
 
   ask : mine .hand ≡ [] → k .operation ≡ askTag → mine .note ≡ askTag → k .sightings ≤ maxSightings → c .state .on ≡ true
       → (k .stage ≡ loading) ⊎ ((k .stage ≡ exchanging) × Seen (lentOf c) (k .seen) × (tagOf (k .seen) ≡ noDelayedFree)) → Moved
-  unfolding moveAct loadAct loadAsk exchangeAct actOf endsAtLoad wordOf pushesB onSharedB newWord exchangeValue simple.act
+  unfolding moveAct loadAct loadAsk exchangeAct failsB actOf endsAtLoad wordOf pushesB onSharedB newWord exchangeValue simple.act
   ask hand op note few on (inl st) = by-tag (eqb (tagOf (c .state .tagged)) 1) refl (eqb (tagOf (c .state .tagged)) 2) refl (leb maxSightings (k .sightings)) refl
     where
       told : eqb (tagOf (c .state .tagged)) 1 ≡ eqb (s .tag) 1

@@ -13,7 +13,7 @@ use Rattle.answers.specs.Rows.{Row, row, first, Outcome, outcome, unless}
 use Rattle.words.specs.Tagged.{freeing, noDelayedFree, useDelayedFree}
 use Rattle.page.specs.Sequences.{one}
 use Rattle.staged.specs.Operations.{pushShared, takeShared, pushTagged, takeTagged, setTag, askTag, stagedB, loading, exchanging, swapping, masking}
-use Rattle.staged.specs.Damage.{Turn}
+use Rattle.staged.specs.Damage.{Turn, headWord}
 use Rattle.staged.specs.Moves.{failsB}
 use Rattle.machine.specs.Config.{Config, workerOf, turnOf}
 use Rattle.machine.specs.Table.{insert, pop, append, extend, release, Tests, table}
@@ -138,11 +138,11 @@ module _ (s : Simple) where
 pub moment-act : (t : Turn) (flag : Bool) → isMoment (actOf t flag) ≡ isAct (actOf t flag)
 unfolding actOf
 moment-act t flag =
-    go (eqb (t .worker .stage) loading) refl (endsAtLoad t) refl (eqb (t .worker .stage) exchanging) refl (failsB t flag) refl (eqb (t .worker .stage) swapping) refl
+    go (eqb (t .worker .stage) loading) refl (endsAtLoad t) refl (eqb (t .worker .stage) exchanging) refl (failsB (headWord t) (t .worker .seen) flag) refl (eqb (t .worker .stage) swapping) refl
     (eqb (t .worker .stage) masking) refl
   where
     go : (b1 : Bool) → eqb (t .worker .stage) loading ≡ b1 → (b2 : Bool) → endsAtLoad t ≡ b2 → (b3 : Bool) → eqb (t .worker .stage) exchanging ≡ b3
-        → (b4 : Bool) → failsB t flag ≡ b4 → (b5 : Bool) → eqb (t .worker .stage) swapping ≡ b5 → (b6 : Bool) → eqb (t .worker .stage) masking ≡ b6
+        → (b4 : Bool) → failsB (headWord t) (t .worker .seen) flag ≡ b4 → (b5 : Bool) → eqb (t .worker .stage) swapping ≡ b5 → (b6 : Bool) → eqb (t .worker .stage) masking ≡ b6
         → isMoment (actOf t flag) ≡ isAct (actOf t flag)
     go true e1 true e2 b3 e3 b4 e4 b5 e5 b6 e6 = rw (e1, e2)
     go true e1 false e2 b3 e3 b4 e4 b5 e5 b6 e6 = rw (e1, e2)

@@ -2,3 +2,5 @@ pub mod Simple
 pub mod Moments
 pub mod Relation
 pub mod Every
+pub mod Trail
+pub mod Compare

@@ -66,7 +66,7 @@ endsAtLoad t =
 unfoldable pub actOf : Turn → Bool → Act
 actOf t flag =
     cond (eqb (t .worker .stage) loading) (cond (endsAtLoad t) loaded none)
-    (cond (eqb (t .worker .stage) exchanging) (cond (failsB t flag) none exchanged)
+    (cond (eqb (t .worker .stage) exchanging) (cond (failsB (headWord t) (t .worker .seen) flag) none exchanged)
     (cond (eqb (t .worker .stage) swapping) swapped (cond (eqb (t .worker .stage) masking) masked none)))
 
 -- the moment of an event; a move of no worker or of an idle one is a refused call

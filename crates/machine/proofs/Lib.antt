@@ -1,1 +1,4 @@
 pub mod Passing
+pub mod Totals
+pub mod Unchanged
+pub mod Sequences

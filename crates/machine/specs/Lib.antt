@@ -5,3 +5,5 @@ pub mod Moves
 pub mod Switch
 pub mod Readers
 pub mod Events
+pub mod Total
+pub mod Exact

@@ -1,7 +1,7 @@
 -- Each stage of a move by the outcomes of its tests: the laws that every return cites. Assumes nothing.
 use Prim.Native.Nat.{ℕ, _/_, _≤_}
 use mathlib.Core.Path.{_≡_, refl, ap, _∙_}
-use mathlib.Core.Bool.{Bool, true, false, not, _&&_, _||_, cond}
+use mathlib.Core.Bool.{Bool, true, false, _&&_, cond}
 use mathlib.Core.List.{List}
 use native.Mathlib.Omega.{arith}
 use lib.Dec.{leb, eqb}
@@ -19,14 +19,15 @@ use Rattle.staged.specs.declared.Worker.{Worker}
 use Rattle.staged.specs.declared.moves.Moved.{Moved}
 use Rattle.staged.specs.Operations.{takeShared, setTag, askTag, maxTag, maxSightings, pushesB, onSharedB, loading, writing, exchanging, swapping, rested, holding, sighted, atStage}
 use Rattle.staged.specs.Damage.{Turn, turn, headWord}
-use Rattle.staged.specs.Moves.{leaves, went, goesOn, ends, sees, loadAsk, loadAwait, loadAct, writeAct, Fitting, wantedTag, newWord, exchangeValue, exchangeAct, swapAct, maskAct}
+use Rattle.staged.specs.Moves.{leaves, went, goesOn, ends, sees, loadAsk, loadAwait, loadAct, writeAct, Fitting, wantedTag, failsB, newWord, exchangeValue, exchangeAct, swapAct, maskAct}
 
 -- what is left by a call is what its promise says
 pub left : {r r′ : Moved} → r ≡ r′ → (on : Bool) (l : Lent) → leaves r on l ≡ leaves r′ on l
 left e on l = simp e
 
 -- the same of a call that has the page
-pub left-page : {r r′ : Moved} {p p′ : List ℕ} → r ≡ r′ → p ≡ p′ → (n bw : ℕ) (on : Bool) (bits : List ℕ) → went n bw on r p bits ≡ went n bw on r′ p′ bits
+pub left-page : {r r′ : Moved} {p p′ : List ℕ} → r ≡ r′ → p ≡ p′ → (n bw : ℕ) (on : Bool) (bits : List ℕ)
+    → went n bw on r p bits ≡ went n bw on r′ p′ bits
 left-page e q n bw on bits = simp (e, q)
 
 -- ---- the new head of an exchange
@@ -38,12 +39,11 @@ module _ (k : Worker) (bw : ℕ) (f : Fitting k bw) where
       → r .value ≡ newWord k bw
   unfolding newWord
   push-word p a e =
-      ap (λ (r : Answer). r .value) (e ∙ ap (setPtrOf (k .seen)) (a ∙ address-within bw (k .hand) (f .narrow) (f .hand p)) ∙ set-ptr (k .seen) _ (address-even bw (k .hand)))
-      ∙ simp p
+      let at = a ∙ address-within bw (k .hand) (f .narrow) (f .hand p) in
+      ap (λ (r : Answer). r .value) (e ∙ ap (setPtrOf (k .seen)) at ∙ set-ptr (k .seen) _ (address-even bw (k .hand))) ∙ simp p
 
   -- the wanted tag is at most 3
   wanted-small : wantedTag k ≤ maxTag
-  unfolding wantedTag
   wanted-small = go (eqb (k .operation) setTag) refl
     where
       go : (b : Bool) → eqb (k .operation) setTag ≡ b → cond b (k .tag) 0 ≤ maxTag
@@ -59,13 +59,15 @@ module _ (t : Turn) where
   -- ---- load
 
   -- the law of `load_ask`
-  pub ask-is : (word : ℕ) {tag : ℕ} {f s g : Bool} → tag ≡ tagOf word → eqb tag freeing ≡ f → leb maxSightings (t .worker .sightings) ≡ s → eqb tag noDelayedFree ≡ g
+  pub ask-is : (word : ℕ) {tag : ℕ} {f s g : Bool} → tag ≡ tagOf word → eqb tag freeing ≡ f → leb maxSightings (t .worker .sightings) ≡ s
+      → eqb tag noDelayedFree ≡ g
       → cond f (cond s (ends t 0) (goesOn t (sighted (t .worker) word))) (cond g (sees t word exchanging) (ends t 1)) ≡ loadAsk t word
   unfolding loadAsk
   ask-is word w f s g = simp (← f, ← s, ← g, w)
 
   -- the law of `load_await`
-  pub await-is : (word : ℕ) {tag : ℕ} {f : Bool} → tag ≡ tagOf word → eqb tag freeing ≡ f → cond f (sees t word loading) (ends t tag) ≡ loadAwait t word
+  pub await-is : (word : ℕ) {tag : ℕ} {f : Bool} → tag ≡ tagOf word → eqb tag freeing ≡ f
+      → cond f (sees t word loading) (ends t tag) ≡ loadAwait t word
   unfolding loadAwait
   await-is word w f = simp (← f, w)
 
@@ -98,23 +100,21 @@ module _ (t : Turn) where
   abbrev ended : ℕ → ℕ → ℕ → Outcome Turn
   ended v shared tagged = outcome done v (turn (rested (t .worker)) shared tagged (t .on) (t .lent))
 
-  by-tests : (o : Outcome Turn) (v word : ℕ) (f e s : Bool)
-      → cond f o (cond e (cond s (ended v word (t .tagged)) (ended v (t .shared) word)) o)
-      ≡ cond (f || not e) o (ended v (cond s word (t .shared)) (cond s (t .tagged) word))
-  by-tests o v word true e s = refl
-  by-tests o v word false false s = refl
-  by-tests o v word false true true = refl
-  by-tests o v word false true false = refl
+  -- the head that changes is picked once for both words
+  by-tests : (o : Outcome Turn) (v word : ℕ) (f s : Bool)
+      → cond f o (cond s (ended v word (t .tagged)) (ended v (t .shared) word))
+      ≡ cond f o (ended v (cond s word (t .shared)) (cond s (t .tagged) word))
+  by-tests o v word true s = refl
+  by-tests o v word false true = refl
+  by-tests o v word false false = refl
 
   -- the law of `exchange`
-  pub exchange-is : (flag : Bool) {head v word : ℕ} {f e s : Bool} → flag ≡ f → head ≡ headWord t → eqb head (t .worker .seen) ≡ e
+  pub exchange-is : (flag : Bool) {head v word : ℕ} {f s : Bool} → head ≡ headWord t → failsB head (t .worker .seen) flag ≡ f
       → v ≡ exchangeValue (t .worker) → word ≡ newWord (t .worker) (t .lent .bw) → onSharedB (t .worker .operation) ≡ s
-      → cond f (goesOn t (atStage (t .worker) loading))
-      (cond e (cond s (ended v word (t .tagged)) (ended v (t .shared) word)) (goesOn t (atStage (t .worker) loading)))
-      ≡ exchangeAct t flag
+      → cond f (goesOn t (atStage (t .worker) loading)) (cond s (ended v word (t .tagged)) (ended v (t .shared) word)) ≡ exchangeAct t flag
   unfolding exchangeAct
-  exchange-is flag {head} {v} {word} {f} {e} {s} hf hh he hv hw hs =
-      by-tests (goesOn t (atStage (t .worker) loading)) v word f e s ∙ simp (← hf, ← he, ← hs, hh, hv, hw)
+  exchange-is flag {head} {v} {word} {f} {s} hh hf hv hw hs =
+      by-tests (goesOn t (atStage (t .worker) loading)) v word f s ∙ simp (← hf, ← hs, hh, hv, hw)
 
   -- ---- swap and mask
 

@@ -20,6 +20,7 @@ module _ (n : ℕ) (on : Bool) (c : Starter) (op a : ℕ) where
   abbrev begins-with : List ℕ → Outcome Starter
   begins-with bits = outcome underWay 0 (starter (begun (c .worker) op a) bits)
 
+  -- the tests one by one give what the rows give
   by-tests : (f b s e p l : Bool)
       → cond (not f) (refused noSuch c)
       (cond b (refused busy c)

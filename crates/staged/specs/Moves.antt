@@ -93,8 +93,8 @@ writeAct t =
 -- ---- exchange
 
 -- it fails where the flag is set or the head differs from the word seen; then only the stage changes
-abbrev pub failsB : Turn → Bool → Bool
-failsB t flag = flag || not (eqb (headWord t) (t .worker .seen))
+unfoldable pub failsB : ℕ → ℕ → Bool → Bool
+failsB head seen flag = flag || not (eqb head seen)
 
 -- what the new head rests on, once the page rules and the damage test are passed
 pub record Fitting (k : Worker) (bw : ℕ) : Type 0 where
@@ -117,7 +117,8 @@ exchangeValue k = cond (eqb (k .operation) askTag) 1 (tagOf (k .seen))
 
 unfoldable pub exchangeAct : Turn → Bool → Outcome Turn
 exchangeAct t flag =
-    cond (failsB t flag) (goesOn t (atStage (t .worker) loading)) (endsWith t (exchangeValue (t .worker)) (newWord (t .worker) (t .lent .bw)))
+    cond (failsB (headWord t) (t .worker .seen) flag) (goesOn t (atStage (t .worker) loading))
+    (endsWith t (exchangeValue (t .worker)) (newWord (t .worker) (t .lent .bw)))
 
 -- ---- swap and mask: got becomes what was there; the value is its front block's number, or 0
 

@@ -9,7 +9,7 @@ ghost use Rattle.page.specs.Limits.{maxBlocks, maxWidth};
 ghost use Rattle.page.specs.Page.{Lent, lent};
 ghost use Rattle.staged.specs.Operations.{holding, saw, atStage};
 ghost use Rattle.staged.specs.Damage.{turn};
-ghost use Rattle.staged.specs.Moves.{Fitting, moved, leaves, went, newWord, exchangeValue, loadAsk, loadAwait, loadAct, writeAct, exchangeAct, swapAct, maskAct};
+ghost use Rattle.staged.specs.Moves.{Fitting, moved, leaves, went, failsB, newWord, exchangeValue, loadAsk, loadAwait, loadAct, writeAct, exchangeAct, swapAct, maskAct};
 use crate::Worker;
 use crate::choice::only_if;
 use crate::moves::Moved;
@@ -154,6 +154,16 @@ pub fn write(bw: u64, shared: u64, tagged: u64, k: Worker, page: &mut [u64]) -> 
     turns_to(EXCHANGING, shared, tagged, k)
 }
 
+// Whether an exchange fails: the flag is set, or the head differs from the word seen.
+fn fails(head: u64, seen: u64, flag: bool) -> bool
+    ensures { λ r. ⌜ r ≡ failsB head seen flag ⌝ }
+{
+    if flag {
+        return true;
+    }
+    head != seen
+}
+
 // The new head: a push's block with the tag seen, or the address seen with the tag wanted.
 fn new_word(k: Worker, bw: u64) -> u64
     requires { ⌜ Fitting k bw ⌝ }
@@ -175,17 +185,12 @@ fn exchange_value(k: Worker) -> u64
     masked_ptr_delay_get_delay(k.seen)
 }
 
-// Exchanges the head, unless the flag is set or the head differs from the word seen: then the next move loads again.
+// Exchanges the head. Where that fails, only the stage changes: the next move loads again.
 pub fn exchange(bw: u64, shared: u64, tagged: u64, k: Worker, flag: bool) -> Moved
     requires { ⌜ Fitting k bw ⌝ }
     ensures { λ r. ⌜ ((n : ℕ) (on : Bool) (page bits : List ℕ) → went n bw on r page bits ≡ exchangeAct (turn k shared tagged on (lent n bw page bits)) flag) ⌝ }
 {
-    if flag {
-        return turns_to(LOADING, shared, tagged, k);
-    }
-    let head = word_of(k.operation, shared, tagged);
-    let seen = k.seen;
-    if head != seen {
+    if fails(word_of(k.operation, shared, tagged), k.seen, flag) {
         return turns_to(LOADING, shared, tagged, k);
     }
     let word = new_word(k, bw);

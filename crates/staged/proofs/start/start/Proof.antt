@@ -176,5 +176,3 @@ start-spec =
     begin-requires-2
     same-length-2
     returns-7)
-
--- x1
