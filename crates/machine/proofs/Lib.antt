@@ -1,4 +1,13 @@
 pub mod Passing
+pub mod GuardArms
+pub mod FreshArms
+pub mod SwitchArms
+pub mod ReaderArms
+pub mod AskArms
+pub mod RequestArms
+pub mod MoveArms
+pub mod FreshStart
+pub mod Entries
 pub mod Totals
 pub mod Unchanged
 pub mod Sequences

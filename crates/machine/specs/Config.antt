@@ -24,6 +24,10 @@ pub record Config : Type 0 where
 abbrev pub config : State → List ℕ → List ℕ → Config
 config s page bits = record { state = s; page = page; bits = bits }
 
+-- the record of the code: an answer and a state
+abbrev pub reply : ℕ → ℕ → State → Reply
+reply number v s = record { number = number; value = v; state = s }
+
 -- what came of a call: the answer and the state given back, and what the slices hold
 abbrev pub came : Reply → List ℕ → List ℕ → Outcome Config
 came r page bits = outcome (r .number) (r .value) (config (r .state) page bits)

@@ -3,6 +3,7 @@ pub mod Table
 pub mod Requests
 pub mod Moves
 pub mod Switch
+pub mod Parts
 pub mod Readers
 pub mod Events
 pub mod Total

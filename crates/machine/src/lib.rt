@@ -1,4 +1,14 @@
+// The whole machine over a State, the page and the bitmap. No public function has a requires: each refuses by document
+// 01's numbers, the smallest first, and a refusal changes nothing.
 use staged::Worker;
+
+mod ask;
+pub mod fresh;
+mod guards;
+pub mod moves;
+pub mod readers;
+pub mod request;
+pub mod switch;
 
 // The state: the page's numbers, the shared head, the tagged word and its switch, and eight worker records.
 pub struct State {

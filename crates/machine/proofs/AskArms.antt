@@ -1,0 +1,81 @@
+-- A worker's part of a request by the outcomes of its tests: the laws that every return of `ask` cites. Assumes nothing.
+use Prim.Native.Nat.{ℕ, _≤_, _<_}
+use mathlib.Core.Path.{_≡_, refl, sym, ap, _∙_}
+use mathlib.Core.Bool.{Bool, true, false, not, _&&_, _||_, cond}
+use mathlib.Core.List.{List}
+use lib.Dec.{leb, eqb}
+use borrow.Author.Tests.{le-leb, lt-leb, ne-eqb}
+use Rattle.answers.specs.Numbers.{noSuch, busy}
+use Rattle.answers.specs.Rows.{Outcome, refused}
+use Rattle.page.specs.Page.{blockB, runB}
+use Rattle.lists.specs.Lists.{Lists}
+use Rattle.lists.specs.Own.{emptyOf}
+use Rattle.staged.specs.Operations.{pushShared, awaitTag, stagedB, busyB}
+use Rattle.staged.specs.Start.{Starter, startFitsB, startOf}
+use Rattle.machine.specs.declared.ask.Asked.{Asked}
+use Rattle.machine.specs.Table.{insert, pop, append, extend, release, askEmpty, argumentsFitB}
+use Rattle.machine.specs.Parts.{Asker, answered, listsIn, ofLists, atOnceOf, starterIn, ofStarter, askOf}
+
+-- ---- the arguments
+
+module _ (n code a b : ℕ) where
+  pub fit-staged : stagedB code ≡ true → startFitsB n code a ≡ argumentsFitB n code a b
+  unfolding argumentsFitB
+  fit-staged s = simp s
+
+  -- of a request that acts at once
+  abbrev pub fitAt : ℕ → Bool
+  fitAt m =
+      cond (eqb m insert) (blockB n a)
+      (cond (eqb m extend) (runB n a b) (eqb m pop || eqb m append || eqb m release || eqb m askEmpty))
+
+  pub fit-at : stagedB code ≡ false → (m : ℕ) → code ≡ m → fitAt m ≡ argumentsFitB n code a b
+  unfolding argumentsFitB
+  fit-at s m e = simp s (ap fitAt (sym e))
+
+  pub fit-rest : stagedB code ≡ false → (code ≡ insert → ⊥) → (code ≡ pop → ⊥) → (code ≡ append → ⊥) → (code ≡ extend → ⊥) → (code ≡ release → ⊥)
+      → eqb code askEmpty ≡ argumentsFitB n code a b
+  unfolding argumentsFitB
+  fit-rest s i p q e r = simp (s, ne-eqb _ _ i, ne-eqb _ _ p, ne-eqb _ _ q, ne-eqb _ _ e, ne-eqb _ _ r)
+
+-- ---- at once
+
+module _ (l : Lists) (code a b : ℕ) where
+  pub once-at : (m : ℕ) → code ≡ m → atOnceOf l m a b ≡ atOnceOf l code a b
+  once-at m e = ap (λ (m : ℕ). atOnceOf l m a b) (sym e)
+
+  pub once-rest : (code ≡ insert → ⊥) → (code ≡ pop → ⊥) → (code ≡ append → ⊥) → (code ≡ extend → ⊥) → (code ≡ release → ⊥)
+      → emptyOf l ≡ atOnceOf l code a b
+  unfolding atOnceOf
+  once-rest i p q e r = simp (ne-eqb _ _ i, ne-eqb _ _ p, ne-eqb _ _ q, ne-eqb _ _ e, ne-eqb _ _ r)
+
+-- ---- any request
+
+-- by the bounds of its code
+pub is-staged : (code : ℕ) → pushShared ≤ code → code ≤ awaitTag → stagedB code ≡ true
+unfolding stagedB
+is-staged code p q = simp (le-leb _ _ p, le-leb _ _ q)
+
+pub below-staged : (code : ℕ) → code < pushShared → stagedB code ≡ false
+unfolding stagedB
+below-staged code p = simp (lt-leb _ _ p)
+
+pub above-staged : (code : ℕ) → awaitTag < code → stagedB code ≡ false
+unfolding stagedB
+above-staged code p = go (leb pushShared code)
+  where
+    go : (v : Bool) → (v && leb code awaitTag) ≡ false
+    go true = lt-leb _ _ p
+    go false = refl
+
+-- what came, by the record given back
+pub answered-by : {n bw : ℕ} {r s : Asked} {page bits : List ℕ} → r ≡ s → answered n bw r page bits ≡ answered n bw s page bits
+answered-by e = simp e
+
+module _ (on : Bool) (x : Asker) (code a b : ℕ) where
+  -- by the arguments, the operation under way, and whether it is staged
+  pub ask-is : {f w s : Bool} {o : Outcome Starter} {d : Outcome Lists} → argumentsFitB (x .lent .n) code a b ≡ f → busyB (x .worker) ≡ w → stagedB code ≡ s
+      → o ≡ startOf (x .lent .n) on (starterIn x) code a → d ≡ atOnceOf (listsIn x) code a b
+      → cond (not f) (refused noSuch x) (cond w (refused busy x) (cond s (ofStarter x o) (ofLists x d))) ≡ askOf on x code a b
+  unfolding askOf
+  ask-is p q s e d = simp (← p, ← q, ← s, e, d)

@@ -1,0 +1,73 @@
+-- One worker's part of a request: its record and what is lent. The page rules and the worker are tested before.
+use Prim.Native.Nat.{ℕ}
+use mathlib.Core.Bool.{Bool, not, cond}
+use mathlib.Core.List.{List}
+use lib.Dec.{eqb}
+use Rattle.answers.specs.Numbers.{noSuch, busy}
+use Rattle.answers.specs.Rows.{Outcome, outcome, refused}
+use Rattle.page.specs.Page.{Lent, lent}
+use Rattle.lists.specs.Lists.{Lists}
+use Rattle.lists.specs.Own.{insertOf, popOf, appendOf, extendOf, releaseOf, emptyOf}
+use Rattle.staged.specs.declared.Worker.{Worker}
+use Rattle.staged.specs.Operations.{stagedB, busyB}
+use Rattle.staged.specs.Start.{Starter, starter, startOf}
+use Rattle.machine.specs.declared.ask.Asked.{Asked}
+use Rattle.machine.specs.Config.{Config, config, workerOf, lentOf, putWorker, withHeads}
+use Rattle.machine.specs.Table.{insert, pop, append, extend, release, argumentsFitB}
+
+-- what a request may change: the worker's record, and what the slices hold
+pub record Asker : Type 0 where
+  pub worker : Worker
+  pub lent : Lent
+
+abbrev pub asker : Worker → Lent → Asker
+asker k l = record { worker = k; lent = l }
+
+-- the record of the code: an answer and a worker's record
+abbrev pub asked : ℕ → ℕ → Worker → Asked
+asked number v k = record { number = number; value = v; worker = k }
+
+-- what a request gives back, with what the slices hold then
+abbrev pub answered : ℕ → ℕ → Asked → List ℕ → List ℕ → Outcome Asker
+answered n bw r page bits = outcome (r .number) (r .value) (asker (r .worker) (lent n bw page bits))
+
+-- a worker's part, and putting it back
+abbrev pub askerOf : Config → ℕ → Asker
+askerOf c w = asker (workerOf c w) (lentOf c)
+
+abbrev pub putAsker : Config → ℕ → Asker → Config
+putAsker c w x = config (putWorker (c .state) w (x .worker)) (x .lent .page) (x .lent .bits)
+
+-- ---- 1 to 5 and 13
+
+abbrev pub listsIn : Asker → Lists
+listsIn x = record { own = x .worker .own; got = x .worker .got; lent = x .lent }
+
+-- own and got alone change
+abbrev pub ofLists : Asker → Outcome Lists → Outcome Asker
+ofLists x o = outcome (o .number) (o .value) (asker (withHeads (x .worker) (o .after .own) (o .after .got)) (o .after .lent))
+
+-- each as it refuses and acts
+unfoldable pub atOnceOf : Lists → ℕ → ℕ → ℕ → Outcome Lists
+atOnceOf l code a b =
+    cond (eqb code insert) (insertOf l a)
+    (cond (eqb code pop) (popOf l)
+    (cond (eqb code append) (appendOf l)
+    (cond (eqb code extend) (extendOf l a b) (cond (eqb code release) (releaseOf l) (emptyOf l)))))
+
+-- ---- 6 to 12
+
+abbrev pub starterIn : Asker → Starter
+starterIn x = starter (x .worker) (x .lent .bits)
+
+-- no page word changes
+abbrev pub ofStarter : Asker → Outcome Starter → Outcome Asker
+ofStarter x o = outcome (o .number) (o .value) (asker (o .after .worker) (lent (x .lent .n) (x .lent .bw) (x .lent .page) (o .after .bits)))
+
+-- ---- any request, of a worker that there is
+
+unfoldable pub askOf : Bool → Asker → ℕ → ℕ → ℕ → Outcome Asker
+askOf on x code a b =
+    cond (not (argumentsFitB (x .lent .n) code a b)) (refused noSuch x)
+    (cond (busyB (x .worker)) (refused busy x)
+    (cond (stagedB code) (ofStarter x (startOf (x .lent .n) on (starterIn x) code a)) (ofLists x (atOnceOf (listsIn x) code a b))))

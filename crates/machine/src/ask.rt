@@ -1,0 +1,139 @@
+// A worker's part of a request: its record, the switch and the lent slices. The page rules and the worker are tested before.
+ghost use mathlib.Core.Path.{_≡_};
+ghost use Rattle.page.specs.Page.{lent};
+ghost use Rattle.lists.specs.Lists.{lists, came};
+ghost use Rattle.machine.specs.Table.{argumentsFitB};
+ghost use Rattle.machine.specs.Parts.{asked, asker, answered, atOnceOf, askOf};
+use answers::BUSY;
+use answers::NO_SUCH;
+use lists::Heads;
+use lists::append;
+use lists::insert_block;
+use lists::is_empty;
+use lists::make_empty;
+use lists::pop_block;
+use lists::prepend_contiguous_blocks;
+use page::is_block;
+use page::is_run;
+use staged::Worker;
+use staged::operations::AWAIT_TAG;
+use staged::operations::PUSH_SHARED;
+use staged::operations::is_busy;
+use staged::operations::is_staged;
+use staged::start::start;
+use staged::start::start_fits;
+
+pub const INSERT: u64 = 1;
+
+pub const POP: u64 = 2;
+
+pub const APPEND: u64 = 3;
+
+pub const EXTEND: u64 = 4;
+
+pub const RELEASE: u64 = 5;
+
+pub const ASK_EMPTY: u64 = 13;
+
+// What a request gives back: its answer and the worker's record.
+pub struct Asked {
+    pub number: u64,
+    pub value: u64,
+    pub worker: Worker,
+}
+
+// Whether there is such a request, and it has the block, the run or the tag that it asks for.
+fn arguments_fit(n: u64, code: u64, a: u64, b: u64) -> bool
+    ensures { λ r. ⌜ r ≡ argumentsFitB n code a b ⌝ }
+{
+    if is_staged(code) {
+        return start_fits(n, code, a);
+    }
+    match code {
+        INSERT => is_block(n, a),
+        POP => true,
+        APPEND => true,
+        EXTEND => is_run(n, a, b),
+        RELEASE => true,
+        _ => code == ASK_EMPTY,
+    }
+}
+
+// The requests that act at once on own and got.
+fn at_once(
+    own: u64,
+    got: u64,
+    n: u64,
+    bw: u64,
+    page: &mut [u64],
+    bits: &mut [u64],
+    code: u64,
+    a: u64,
+    b: u64,
+) -> Heads
+    ensures { λ r. ⌜ came n bw r (now (page .exit)) (now (bits .exit)) ≡ atOnceOf (lists own got n bw (now (page .entry)) (now (bits .entry))) code a b ⌝ }
+{
+    match code {
+        INSERT => insert_block(own, got, n, bw, page, bits, a),
+        POP => pop_block(own, got, n, bw, &*page, bits),
+        APPEND => append(own, got, n, bw, page, &*bits),
+        EXTEND => prepend_contiguous_blocks(own, got, n, bw, page, bits, a, b),
+        RELEASE => make_empty(own, got, n, bw, &*page, bits),
+        _ => is_empty(own, got, n, bw, &*page, &*bits),
+    }
+}
+
+// A refusal: the record stays.
+fn refuse(k: Worker, number: u64) -> Asked
+    ensures { λ r. ⌜ r ≡ asked number 0 k ⌝ }
+{
+    Asked {
+        number,
+        value: 0,
+        worker: k,
+    }
+}
+
+// A request: refused with 4 or 5, else decided by its code.
+pub fn ask(
+    k: Worker,
+    n: u64,
+    bw: u64,
+    on: bool,
+    page: &mut [u64],
+    bits: &mut [u64],
+    code: u64,
+    a: u64,
+    b: u64,
+) -> Asked
+    ensures { λ r. ⌜ answered n bw r (now (page .exit)) (now (bits .exit)) ≡ askOf on (asker k (lent n bw (now (page .entry)) (now (bits .entry)))) code a b ⌝ }
+{
+    if !arguments_fit(n, code, a, b) {
+        return refuse(k, NO_SUCH);
+    }
+    if is_busy(k) {
+        return refuse(k, BUSY);
+    }
+    match code {
+        PUSH_SHARED..=AWAIT_TAG => {
+            let r = start(k, n, on, bits, code, a);
+            let worker = r.worker;
+            Asked {
+                number: r.number,
+                value: r.value,
+                worker,
+            }
+        }
+        _ => {
+            let r = at_once(k.own, k.got, n, bw, page, bits, code, a, b);
+            let mut worker = k;
+            worker.own = r.own;
+            worker.got = r.got;
+            Asked {
+                number: r.number,
+                value: r.value,
+                worker,
+            }
+        }
+    }
+}
