@@ -6,6 +6,8 @@ pub mod ReaderArms
 pub mod AskArms
 pub mod RequestArms
 pub mod MoveArms
+pub mod ToggleArms
+pub mod EventArms
 pub mod FreshStart
 pub mod Entries
 pub mod Totals

@@ -1,6 +1,6 @@
 -- A move by the page rules and the worker, and then what `staged` makes of the worker's turn. Assumes nothing.
 use Prim.Native.Nat.{ℕ}
-use mathlib.Core.Path.{_≡_, refl, ap, _∙_}
+use mathlib.Core.Path.{_≡_, ap, _∙_}
 use mathlib.Core.Bool.{Bool, true, false, not, cond}
 use lib.Dec.{ltb}
 use Rattle.answers.specs.Numbers.{badPage, noWorker}

@@ -9,17 +9,15 @@ use lib.Dec.{ltb, leb, eqb}
 use lib.Seq.{set-getD}
 use borrow.Author.Tests.{eqb-true, ne-eqb, leb-true}
 use Rattle.answers.specs.Numbers.{badPage, noWorker, noSuch, busy, switched, notEmpty, listed, noneLeft, damaged}
-use Rattle.answers.specs.Rows.{Row, row, first, Outcome, outcome, refused, unless}
+use Rattle.answers.specs.Rows.{row, first, Outcome, refused, unless}
 use Rattle.answers.proofs.Rows.{and-left, and-right}
 use Rattle.page.specs.Limits.{maxWorkers}
-use Rattle.page.specs.Page.{Lent, keepsRulesB, workersB, blockB, runB, listedB, linkAt, soundIn}
+use Rattle.page.specs.Page.{keepsRulesB, workersB, blockB, runB, listedB}
 use Rattle.page.proofs.Rules.{workers-facts}
-use Rattle.bitmap.specs.Bitmap.{anySet}
-use Rattle.lists.specs.Lists.{Lists}
 use Rattle.lists.specs.Own.{insertAct, insertRefusal, insertOf, popAct, popRefusal, popOf, appendAct, appendRefusal, appendOf, extendAct, extendRefusal, extendOf, releaseAct, releaseRefusal, releaseOf, emptyAct, emptyRefusal, emptyOf}
 use Rattle.staged.specs.declared.Worker.{Worker}
 use Rattle.staged.specs.Operations.{pushShared, awaitTag, stagedB, pushesB, takesB, onTaggedB, offB, fullB, busyB}
-use Rattle.staged.specs.Start.{Starter, startFitsB, startAct, startRefusal, startOf}
+use Rattle.staged.specs.Start.{startFitsB, startAct, startRefusal, startOf}
 use Rattle.machine.specs.declared.Reply.{Reply}
 use Rattle.machine.specs.Config.{Config, config, came, stateOf, blank, workerOf, lentOf, listsOf, starterOf, putLists, putStarter, over, rulesB}
 use Rattle.machine.specs.Table.{insert, pop, append, extend, release, askEmpty, table, argumentsFitB, anyNamed, ownUnsound, linkUnsound, walkBroken, testsOf, requestRefusal}
@@ -30,10 +28,14 @@ use Rattle.machine.specs.Parts.{Asker, askerOf, putAsker, ofLists, atOnc
 pub came-by : {r s : Reply} {page bits : List ℕ} → r ≡ s → came r page bits ≡ came s page bits
 came-by e = simp e
 
--- on a page that keeps the rules a worker below W has a record
-pub worker-inside : (c : Config) (w : ℕ) → rulesB c ≡ true → w < c .state .w → w < maxWorkers
+-- where the page rules are kept there are at most eight workers
+pub most-workers : (c : Config) → rulesB c ≡ true → c .state .w ≤ maxWorkers
 unfolding rulesB
-worker-inside c w r h = omega (arith, workers-facts (c .state .w) (and-right (keepsRulesB (lentOf c)) _ r))
+most-workers c r = workers-facts (c .state .w) (and-right (keepsRulesB (lentOf c)) _ r) .1
+
+-- and a worker below W has a record
+pub worker-inside : (c : Config) (w : ℕ) → rulesB c ≡ true → w < c .state .w → w < maxWorkers
+worker-inside c w r h = omega (arith, most-workers c r)
 
 -- and what is lent keeps them
 pub keeps-lent : (c : Config) → rulesB c ≡ true → keepsRulesB (lentOf c) ≡ true

@@ -1,19 +1,28 @@
--- One worker's part of a request: its record and what is lent. The page rules and the worker are tested before.
-use Prim.Native.Nat.{ℕ}
-use mathlib.Core.Bool.{Bool, not, cond}
+-- One worker's part of a request and of an event: its record, the head words, the switch and what is lent. The page rules are
+-- tested before.
+use Prim.Native.Nat.{ℕ, _+_, _*_}
+use mathlib.Core.Bool.{Bool, true, false, not, _||_, cond}
 use mathlib.Core.List.{List}
-use lib.Dec.{eqb}
-use Rattle.answers.specs.Numbers.{noSuch, busy}
+use lib.Dec.{ltb, eqb}
+use lib.ListN.{getD}
+use Rattle.answers.specs.Numbers.{done, noWorker, noSuch, busy, switched, notEmpty}
 use Rattle.answers.specs.Rows.{Outcome, outcome, refused}
+use Rattle.words.specs.Tagged.{tagOf, addressOf}
 use Rattle.page.specs.Page.{Lent, lent}
 use Rattle.lists.specs.Lists.{Lists}
 use Rattle.lists.specs.Own.{insertOf, popOf, appendOf, extendOf, releaseOf, emptyOf}
 use Rattle.staged.specs.declared.Worker.{Worker}
 use Rattle.staged.specs.Operations.{stagedB, busyB}
 use Rattle.staged.specs.Start.{Starter, starter, startOf}
+use Rattle.staged.specs.Damage.{Turn, turn}
+use Rattle.staged.specs.Moves.{moveOf}
 use Rattle.machine.specs.declared.ask.Asked.{Asked}
+use Rattle.machine.specs.declared.happen.Event.{Event}
+use Rattle.machine.specs.declared.happen.Turned.{Turned}
+use Rattle.machine.specs.declared.toggle.Toggled.{Toggled}
 use Rattle.machine.specs.Config.{Config, config, workerOf, lentOf, putWorker, withHeads}
 use Rattle.machine.specs.Table.{insert, pop, append, extend, release, argumentsFitB}
+use Rattle.machine.specs.Events.{eventWords, aRequest, aMove, turnsOn, turnsOff, flagOf}
 
 -- what a request may change: the worker's record, and what the slices hold
 pub record Asker : Type 0 where
@@ -71,3 +80,67 @@ askOf on x code a b =
     cond (not (argumentsFitB (x .lent .n) code a b)) (refused noSuch x)
     (cond (busyB (x .worker)) (refused busy x)
     (cond (stagedB code) (ofStarter x (startOf (x .lent .n) on (starterIn x) code a)) (ofLists x (atOnceOf (listsIn x) code a b))))
+
+-- ---- T's switch: its word and whether it is on
+
+-- the record of the code: an answer, T's word and its switch
+abbrev pub toggled : ℕ → ℕ → ℕ → Bool → Toggled
+toggled number v tagged on = record { number = number; value = v; tagged = tagged; on = on }
+
+unfoldable pub toggleOnOf : ℕ → Bool → Toggled
+toggleOnOf tagged on = cond on (toggled switched 0 tagged on) (toggled done 0 0 true)
+
+-- any: a worker has an operation under way
+unfoldable pub toggleOffOf : Bool → ℕ → Bool → Toggled
+toggleOffOf any tagged on =
+    cond any (toggled busy 0 tagged on)
+    (cond (not on) (toggled switched 0 tagged on)
+    (cond (not (eqb (addressOf tagged) 0)) (toggled notEmpty 0 tagged on) (toggled done (tagOf tagged) 0 false)))
+
+-- by the kind; an unknown one is answered with 4
+unfoldable pub toggleOf : ℕ → Bool → ℕ → Bool → Toggled
+toggleOf kind any tagged on =
+    cond (eqb kind turnsOn) (toggleOnOf tagged on) (cond (eqb kind turnsOff) (toggleOffOf any tagged on) (toggled noSuch 0 tagged on))
+
+-- ---- an event
+
+-- the record of the code: an answer, the head words, the switch and a worker's record
+abbrev pub turned : ℕ → ℕ → ℕ → ℕ → Bool → Worker → Turned
+turned number v shared tagged on k = record { number = number; value = v; shared = shared; tagged = tagged; on = on; worker = k }
+
+-- what an event gives back, with what the slices hold then
+abbrev pub happened : ℕ → ℕ → Turned → List ℕ → List ℕ → Outcome Turn
+happened n bw r page bits = outcome (r .number) (r .value) (turn (r .worker) (r .shared) (r .tagged) (r .on) (lent n bw page bits))
+
+-- event number k of the slice
+abbrev pub eventIn : List ℕ → ℕ → Event
+eventIn events k = record {
+  kind = getD events (k * eventWords) 0;
+  worker = getD events (k * eventWords + 1) 0;
+  code = getD events (k * eventWords + 2) 0;
+  a = getD events (k * eventWords + 3) 0;
+  b = getD events (k * eventWords + 4) 0;
+}
+
+-- a request or a move, which a worker makes
+unfoldable pub byWorkerB : ℕ → Bool
+byWorkerB kind = eqb kind aRequest || eqb kind aMove
+
+-- T's word and its switch alone change
+abbrev pub ofToggled : Turn → Toggled → Outcome Turn
+ofToggled t r = outcome (r .number) (r .value) (turn (t .worker) (t .shared) (r .tagged) (r .on) (t .lent))
+
+-- the worker's record and what is lent alone change
+abbrev pub ofAsker : Turn → Outcome Asker → Outcome Turn
+ofAsker t o = outcome (o .number) (o .value) (turn (o .after .worker) (t .shared) (t .tagged) (t .on) (o .after .lent))
+
+-- known: there is such a worker; any: some worker has an operation under way
+unfoldable pub happenOf : Bool → Bool → Turn → Event → Outcome Turn
+happenOf known any t e =
+    cond (not (byWorkerB (e .kind))) (ofToggled t (toggleOf (e .kind) any (t .tagged) (t .on)))
+    (cond (not known) (refused noWorker t)
+    (cond (eqb (e .kind) aMove) (moveOf t (flagOf (e .code))) (ofAsker t (askOf (t .on) (asker (t .worker) (t .lent)) (e .code) (e .a) (e .b)))))
+
+-- the place of a worker's record; of one that there is not, the first
+unfoldable pub slotOf : ℕ → ℕ → ℕ
+slotOf worker workers = cond (ltb worker workers) worker 0

@@ -83,14 +83,14 @@ fn at_once(
     }
 }
 
-// A refusal: the record stays.
-fn refuse(k: Worker, number: u64) -> Asked
-    ensures { λ r. ⌜ r ≡ asked number 0 k ⌝ }
+// An answer and a record.
+fn give(number: u64, value: u64, worker: Worker) -> Asked
+    ensures { λ r. ⌜ r ≡ asked number value worker ⌝ }
 {
     Asked {
         number,
-        value: 0,
-        worker: k,
+        value,
+        worker,
     }
 }
 
@@ -109,31 +109,23 @@ pub fn ask(
     ensures { λ r. ⌜ answered n bw r (now (page .exit)) (now (bits .exit)) ≡ askOf on (asker k (lent n bw (now (page .entry)) (now (bits .entry)))) code a b ⌝ }
 {
     if !arguments_fit(n, code, a, b) {
-        return refuse(k, NO_SUCH);
+        return give(NO_SUCH, 0, k);
     }
     if is_busy(k) {
-        return refuse(k, BUSY);
+        return give(BUSY, 0, k);
     }
     match code {
         PUSH_SHARED..=AWAIT_TAG => {
             let r = start(k, n, on, bits, code, a);
             let worker = r.worker;
-            Asked {
-                number: r.number,
-                value: r.value,
-                worker,
-            }
+            give(r.number, r.value, worker)
         }
         _ => {
             let r = at_once(k.own, k.got, n, bw, page, bits, code, a, b);
             let mut worker = k;
             worker.own = r.own;
             worker.got = r.got;
-            Asked {
-                number: r.number,
-                value: r.value,
-                worker,
-            }
+            give(r.number, r.value, worker)
         }
     }
 }

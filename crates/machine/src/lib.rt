@@ -3,12 +3,15 @@
 use staged::Worker;
 
 mod ask;
+pub mod events;
 pub mod fresh;
 mod guards;
+mod happen;
 pub mod moves;
 pub mod readers;
 pub mod request;
 pub mod switch;
+mod toggle;
 
 // The state: the page's numbers, the shared head, the tagged word and its switch, and eight worker records.
 pub struct State {

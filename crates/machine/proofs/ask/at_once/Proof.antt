@@ -1,7 +1,7 @@
 -- `machine::ask::at_once` meets its contract. Assumes nothing.
 use mathlib.Core.Path.{_∙_}
 use borrow.Author.Needs.{needs}
-use Rattle.lists.specs.Lists.{Lists, lists}
+use Rattle.lists.specs.Lists.{lists}
 use Rattle.machine.specs.Parts.{atOnceOf}
 use Rattle.machine.proofs.AskArms.{once-at, once-rest}
 use Rattle.machine.proofs.ask.at_once.Statement.{statement}

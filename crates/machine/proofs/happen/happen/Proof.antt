@@ -1,0 +1,95 @@
+-- `machine::happen::happen` meets its contract. Assumes nothing.
+use mathlib.Core.Path.{refl, _∙_}
+use borrow.Author.Needs.{needs}
+use borrow.Author.Tests.{eq-eqb, ne-eqb}
+use Rattle.answers.proofs.Rows.{by-not}
+use Rattle.page.specs.Page.{lent}
+use Rattle.staged.specs.Damage.{turn}
+use Rattle.machine.proofs.EventArms.{happened-by, happen-is}
+use Rattle.machine.proofs.happen.happen.Statement.{statement}
+use Rattle.machine.proofs.happen.happen.Tie as tie
+
+by-worker-requires : tie.Need-by-worker-requires
+by-worker-requires c κs = search needs
+
+toggle-requires : tie.Need-toggle-requires
+toggle-requires c κs = search needs
+
+give-requires : tie.Need-give-requires
+give-requires c κs = search needs
+
+returns : tie.Need-returns
+returns c =
+    let x = c .before .before .before .before .before .before .args in
+    happened-by (c .give .ensures)
+    ∙ happen-is (x .known) (x .busy) (turn (x .k) (x .shared) (x .tagged) (x .on) (lent (x .n) (x .bw) (x .page .now) (x .bits .now))) (x .e)
+    (by-not (c .before .before .before .by-worker .ensures) (c .before .before .if1 .taken)) refl refl (c .before .toggle .ensures) refl refl
+
+give-requires-2 : tie.Need-give-requires-2
+give-requires-2 c κs = search needs
+
+returns-2 : tie.Need-returns-2
+returns-2 c =
+    let x = c .before .before .before .before .before .before .args in
+    happened-by (c .give2 .ensures)
+    ∙ happen-is (x .known) (x .busy) (turn (x .k) (x .shared) (x .tagged) (x .on) (lent (x .n) (x .bw) (x .page .now) (x .bits .now))) (x .e)
+    (by-not (c .before .before .before .by-worker .ensures) (c .before .before .if1 .left)) (by-not refl (c .before .if2 .taken)) refl refl refl refl
+
+make-requires : tie.Need-make-requires
+make-requires c κs = search needs
+
+give-requires-3 : tie.Need-give-requires-3
+give-requires-3 c κs = search needs
+
+same-length : tie.Need-same-length
+same-length c = search needs
+
+same-length-2 : tie.Need-same-length-2
+same-length-2 c = search needs
+
+returns-3 : tie.Need-returns-3
+returns-3 c =
+    let x = c .before .before .before .before .before .before .before .before .before .before .before .before .before .before .before .args in
+    happened-by (c .give3 .ensures)
+    ∙ happen-is (x .known) (x .busy) (turn (x .k) (x .shared) (x .tagged) (x .on) (lent (x .n) (x .bw) (x .page .now) (x .bits .now))) (x .e)
+    (by-not (c .before .before .before .before .before .before .before .before .before .before .before .before .by-worker .ensures) (c .before .before .before .before .before .before .before .before .before .before .before .if1 .left)) (by-not refl (c .before .before .before .before .before .before .before .before .before .before .if2 .left)) (eq-eqb _ _ (c .before .before .before .before .before .before .before .before .if3 .taken)) refl (c .before .before .before .before .make .ensures) refl
+
+ask-requires : tie.Need-ask-requires
+ask-requires c κs = search needs
+
+give-requires-4 : tie.Need-give-requires-4
+give-requires-4 c κs = search needs
+
+same-length-3 : tie.Need-same-length-3
+same-length-3 c = search needs
+
+same-length-4 : tie.Need-same-length-4
+same-length-4 c = search needs
+
+returns-4 : tie.Need-returns-4
+returns-4 c =
+    let x = c .before .before .before .before .before .before .before .before .before .before .before .before .before .before .before .before .args in
+    happened-by (c .give4 .ensures)
+    ∙ happen-is (x .known) (x .busy) (turn (x .k) (x .shared) (x .tagged) (x .on) (lent (x .n) (x .bw) (x .page .now) (x .bits .now))) (x .e)
+    (by-not (c .before .before .before .before .before .before .before .before .before .before .before .before .before .by-worker .ensures) (c .before .before .before .before .before .before .before .before .before .before .before .before .if1 .left)) (by-not refl (c .before .before .before .before .before .before .before .before .before .before .before .if2 .left)) (ne-eqb _ _ (c .before .before .before .before .before .before .before .before .before .if3 .left)) refl refl (c .before .before .before .before .before .before .ask .ensures)
+
+pub happen-spec : {M : Type 1} → statement M
+happen-spec =
+    tie.close
+    (tie.spec
+    by-worker-requires
+    toggle-requires
+    give-requires
+    returns
+    give-requires-2
+    returns-2
+    make-requires
+    give-requires-3
+    same-length
+    same-length-2
+    returns-3
+    ask-requires
+    give-requires-4
+    same-length-3
+    same-length-4
+    returns-4)
