@@ -1,20 +1,22 @@
 -- A worker's part of a request by the outcomes of its tests: the laws that every return of `ask` cites. Assumes nothing.
-use Prim.Native.Nat.{ℕ, _≤_, _<_}
-use mathlib.Core.Path.{_≡_, refl, sym, ap}
+use Prim.Native.Nat.{ℕ}
+use mathlib.Core.Path.{_≡_, sym, ap}
 use mathlib.Core.Bool.{Bool, true, false, not, _&&_, _||_, cond}
 use mathlib.Core.List.{List}
-use lib.Dec.{leb, eqb}
-use borrow.Author.Tests.{le-leb, lt-leb, ne-eqb}
+use lib.Dec.{eqb}
+use borrow.Author.Tests.{ne-eqb}
 use Rattle.answers.specs.Numbers.{noSuch, busy}
 use Rattle.answers.specs.Rows.{Outcome, refused}
 use Rattle.page.specs.Page.{blockB, runB}
 use Rattle.lists.specs.Lists.{Lists}
 use Rattle.lists.specs.Own.{emptyOf}
-use Rattle.staged.specs.Operations.{pushShared, awaitTag, stagedB, busyB}
-use Rattle.staged.specs.Start.{Starter, startFitsB, startOf}
+use Rattle.staged.specs.declared.Worker.{Worker}
+use Rattle.staged.specs.Operations.{stagedB, busyB}
+use Rattle.staged.specs.declared.start.Begun.{Begun}
+use Rattle.staged.specs.Start.{Starter, started, startFitsB, startOf}
 use Rattle.machine.specs.declared.ask.Asked.{Asked}
 use Rattle.machine.specs.Table.{insert, pop, append, extend, release, askEmpty, argumentsFitB}
-use Rattle.machine.specs.Parts.{Asker, answered, listsIn, ofLists, atOnceOf, starterIn, ofStarter, askOf}
+use Rattle.machine.specs.Parts.{Asker, answered, listsIn, ofLists, atOnceOf, starterIn, ofStarter, readyB, beginOf, askOf}
 
 -- ---- the arguments
 
@@ -51,31 +53,26 @@ module _ (l : Lists) (code a b : ℕ) where
 
 -- ---- any request
 
--- by the bounds of its code
-pub is-staged : (code : ℕ) → pushShared ≤ code → code ≤ awaitTag → stagedB code ≡ true
-unfolding stagedB
-is-staged code p q = simp (le-leb _ _ p, le-leb _ _ q)
-
-pub below-staged : (code : ℕ) → code < pushShared → stagedB code ≡ false
-unfolding stagedB
-below-staged code p = simp (lt-leb _ _ p)
-
-pub above-staged : (code : ℕ) → awaitTag < code → stagedB code ≡ false
-unfolding stagedB
-above-staged code p = go (leb pushShared code)
-  where
-    go : (v : Bool) → (v && leb code awaitTag) ≡ false
-    go true = lt-leb _ _ p
-    go false = refl
-
 -- what came, by the record given back
 pub answered-by : {n bw : ℕ} {r s : Asked} {page bits : List ℕ} → r ≡ s → answered n bw r page bits ≡ answered n bw s page bits
 answered-by e = simp e
 
-module _ (on : Bool) (x : Asker) (code a b : ℕ) where
-  -- by the arguments, the operation under way, and whether it is staged
-  pub ask-is : {f w s : Bool} {o : Outcome Starter} {d : Outcome Lists} → argumentsFitB (x .lent .n) code a b ≡ f → busyB (x .worker) ≡ w → stagedB code ≡ s
-      → o ≡ startOf (x .lent .n) on (starterIn x) code a → d ≡ atOnceOf (listsIn x) code a b
-      → cond (not f) (refused noSuch x) (cond w (refused busy x) (cond s (ofStarter x o) (ofLists x d))) ≡ askOf on x code a b
-  unfolding askOf
-  ask-is p q s e d = simp (← p, ← q, ← s, e, d)
+pub started-by : {r s : Begun} {bits : List ℕ} → r ≡ s → started r bits ≡ started s bits
+started-by e = simp e
+
+-- by the arguments, the operation under way, and whether it is staged
+pub ready-is : (n : ℕ) (k : Worker) (code a b : ℕ) {f w s : Bool} → argumentsFitB n code a b ≡ f → busyB k ≡ w → stagedB code ≡ s → (f && (not w && not s)) ≡ readyB n k code a b
+unfolding readyB
+ready-is n k code a b p q s = simp (← p, ← q, ← s)
+
+-- by the arguments and the operation under way
+pub begin-is : (n : ℕ) (on : Bool) (x : Starter) (code a b : ℕ) {f w : Bool} {o : Outcome Starter} → argumentsFitB n code a b ≡ f → busyB (x .worker) ≡ w → o ≡ startOf n on x code a
+    → cond (not f) (refused noSuch x) (cond w (refused busy x) o) ≡ beginOf n on x code a b
+unfolding beginOf
+begin-is n on x code a b p q e = simp (← p, ← q, e)
+
+-- by its acting at once
+pub ask-is : (on : Bool) (x : Asker) (code a b : ℕ) {y : Bool} {o : Outcome Starter} {d : Outcome Lists} → readyB (x .lent .n) (x .worker) code a b ≡ y
+    → o ≡ beginOf (x .lent .n) on (starterIn x) code a b → d ≡ atOnceOf (listsIn x) code a b → cond y (ofLists x d) (ofStarter x o) ≡ askOf on x code a b
+unfolding askOf
+ask-is on x code a b p e d = simp (← p, e, d)

@@ -1,7 +1,7 @@
 -- An event by the outcomes of its tests, as a part of the whole, and a run of events one after another. Assumes nothing.
 use Prim.Native.Nat.{ℕ, _+_, _*_, _/_, _%_, _≤_, _<_}
 use mathlib.Core.Path.{_≡_, refl, sym, ap, subst, _∙_}
-use mathlib.Core.Bool.{Bool, true, false, not, _||_, cond}
+use mathlib.Core.Bool.{Bool, true, false, not, _&&_, _||_, cond}
 use mathlib.Core.List.{List}
 use native.Mathlib.Numerals.{add-one}
 use native.Mathlib.Omega.{arith}
@@ -10,7 +10,11 @@ use lib.ListN.{length, set}
 use borrow.Author.Tests.{ltb-true, eqb-true, ne-eqb}
 use Rattle.answers.specs.Numbers.{done, badPage, noWorker, noSuch, noneLeft}
 use Rattle.answers.specs.Rows.{first, Outcome, outcome, refused, unless}
+use Rattle.answers.proofs.Rows.{and-left, and-right}
 use Rattle.page.specs.Limits.{maxWorkers}
+use Rattle.lists.specs.Lists.{Lists}
+use Rattle.staged.specs.declared.Worker.{Worker}
+use Rattle.staged.specs.Start.{Starter, starter}
 use Rattle.staged.specs.Damage.{Turn}
 use Rattle.staged.specs.Moves as staged
 use Rattle.machine.specs.declared.Reply.{Reply}
@@ -18,11 +22,12 @@ use Rattle.machine.specs.declared.State.{State}
 use Rattle.machine.specs.declared.happen.Event.{Event}
 use Rattle.machine.specs.declared.happen.Turned.{Turned}
 use Rattle.machine.specs.declared.toggle.Toggled.{Toggled}
-use Rattle.machine.specs.Config.{Config, config, turnOf, putTurn, over, rulesB}
+use Rattle.machine.specs.Config.{Config, config, workerOf, putWorker, listsOf, putLists, turnOf, putTurn, over, rulesB}
 use Rattle.machine.specs.Table.{anyBusy}
 use Rattle.machine.specs.Switch.{switchOnOf, switchOffOf}
 use Rattle.machine.specs.Events.{eventWords, answerWords, aRequest, aMove, turnsOn, turnsOff, flagOf, eventOf, Run, ran, cameRun, told, eventAt, turnAt, runOf, eventsRefusal, eventsOf}
-use Rattle.machine.specs.Parts.{Asker, asker, askOf, toggled, toggleOnOf, toggleOffOf, toggleOf, happened, byWorkerB, ofToggled, ofAsker, happenOf, slotOf}
+use Rattle.machine.specs.Parts.{askerOf, atOnceOf, readyB, beginOf, toggled, toggleOnOf, toggleOffOf, toggleOf, happened, byWorkerB, ofToggled, quickB, ofBegun, happenOf, slotOf}
+use Rattle.machine.proofs.AskArms.{ask-is}
 use Rattle.machine.proofs.RequestArms.{most-workers, put-lists-same, request-is}
 use Rattle.machine.proofs.MoveArms.{move-is}
 use Rattle.machine.proofs.ToggleArms.{withToggled, put-toggled, switches-on, switches-off}
@@ -37,12 +42,18 @@ pub worker-is : (kind : ℕ) {p : Bool} → eqb kind aRequest ≡ p → (p || eq
 unfolding byWorkerB
 worker-is kind p = simp (← p)
 
+-- by its being a request, the worker, and its acting at once
+pub quick-is : (workers n : ℕ) (k : Worker) (e : Event) {p l y : Bool} → eqb (e .kind) aRequest ≡ p → ltb (e .worker) workers ≡ l → y ≡ readyB n k (e .code) (e .a) (e .b)
+    → (p && (l && y)) ≡ quickB workers n k e
+unfolding quickB
+quick-is workers n k e p l y = simp (← p, ← l, y)
+
 module _ (known any : Bool) (t : Turn) (e : Event) where
   -- by whose event it is, the worker, and whether it is a move
-  pub happen-is : {y n m : Bool} {r : Toggled} {o : Outcome Turn} {d : Outcome Asker} → byWorkerB (e .kind) ≡ y → known ≡ n → eqb (e .kind) aMove ≡ m
+  pub happen-is : {y n m : Bool} {r : Toggled} {o : Outcome Turn} {d : Outcome Starter} → byWorkerB (e .kind) ≡ y → known ≡ n → eqb (e .kind) aMove ≡ m
       → r ≡ toggleOf (e .kind) any (t .tagged) (t .on) → o ≡ staged.moveOf t (flagOf (e .code))
-      → d ≡ askOf (t .on) (asker (t .worker) (t .lent)) (e .code) (e .a) (e .b)
-      → cond (not y) (ofToggled t r) (cond (not n) (refused noWorker t) (cond m o (ofAsker t d))) ≡ happenOf known any t e
+      → d ≡ beginOf (t .lent .n) (t .on) (starter (t .worker) (t .lent .bits)) (e .code) (e .a) (e .b)
+      → cond (not y) (ofToggled t r) (cond (not n) (refused noWorker t) (cond m o (ofBegun t d))) ≡ happenOf known any t e
   unfolding happenOf
   happen-is p q s r o d = simp (← p, ← q, ← s, r, o, d)
 
@@ -69,13 +80,38 @@ module _ (c : Config) (e : Event) (r : rulesB c ≡ true) where
   stays : (w k : ℕ) → over (putTurn c w) (refused k (turnOf c w)) ≡ refused k c
   stays w k = simp (put-lists-same c w)
 
+  abbrev ready : Bool
+  ready = readyB (c .state .n) (workerOf c (e .worker)) (e .code) (e .a) (e .b)
+
+  -- a request that acts at once, by its worker's lists put back
+  acts : ltb (e .worker) (c .state .w) ≡ true → eqb (e .kind) aRequest ≡ true → ready ≡ true
+      → over (putLists c (e .worker)) (atOnceOf (listsOf c (e .worker)) (e .code) (e .a) (e .b)) ≡ whole
+  unfolding eventOf
+  acts l p y = simp p (request-is c (e .worker) (e .a) (e .b) (e .code) r l (ask-is (c .state .on) (askerOf c (e .worker)) (e .code) (e .a) (e .b) y refl refl))
+
+  pub act-is : {w : ℕ} {o : Outcome Lists} → w ≡ slotOf (e .worker) (c .state .w) → quickB (c .state .w) (c .state .n) (workerOf c w) e ≡ true
+      → o ≡ atOnceOf (listsOf c w) (e .code) (e .a) (e .b) → over (putLists c w) o ≡ whole
+  unfolding slotOf quickB
+  act-is {w} q t d =
+      let m = eqb (e .kind) aRequest in
+      let n = ltb (e .worker) (c .state .w) in
+      let u = readyB (c .state .n) (workerOf c w) (e .code) (e .a) (e .b) in
+      let h = and-right m (n && u) t in
+      let l = and-left n u h in
+      let i : w ≡ e .worker = q ∙ ap (λ (v : Bool). cond v (e .worker) 0) l in
+      let y : ready ≡ true = ap (λ (v : ℕ). readyB (c .state .n) (workerOf c v) (e .code) (e .a) (e .b)) (sym i) ∙ and-right n u h in
+      ap (over (putLists c w)) d
+      ∙ ap (λ (v : ℕ). over (putLists c v) (atOnceOf (listsOf c v) (e .code) (e .a) (e .b))) i
+      ∙ acts l (and-left m (n && u) t) y
+
   -- a request or a move, of a worker that there is and of one that there is not
   module _ (any : Bool) where
-    asks : ltb (e .worker) (c .state .w) ≡ true → eqb (e .kind) aRequest ≡ true → over (putTurn c (e .worker)) (happenOf true any (turnOf c (e .worker)) e) ≡ whole
+    asks : ltb (e .worker) (c .state .w) ≡ true → eqb (e .kind) aRequest ≡ true → ready ≡ false
+        → over (putTurn c (e .worker)) (happenOf true any (turnOf c (e .worker)) e) ≡ whole
     unfolding happenOf byWorkerB eventOf
-    asks l p =
+    asks l p y =
         let z : eqb (e .kind) aMove ≡ false = ne-eqb (e .kind) aMove (λ h. omega (arith, eqb-true (e .kind) aRequest p)) in
-        simp (p, z) (request-is c (e .worker) (e .a) (e .b) (e .code) r l refl)
+        simp (p, z) (request-is c (e .worker) (e .a) (e .b) (e .code) r l (ask-is (c .state .on) (askerOf c (e .worker)) (e .code) (e .a) (e .b) y refl refl))
 
     asks-none : (w : ℕ) → ltb (e .worker) (c .state .w) ≡ false → eqb (e .kind) aRequest ≡ true → over (putTurn c w) (happenOf false any (turnOf c w) e) ≡ whole
     unfolding happenOf byWorkerB eventOf
@@ -108,19 +144,22 @@ module _ (c : Config) (e : Event) (r : rulesB c ≡ true) where
     known w q h = subst (λ (w : ℕ). over (putTurn c w) (happenOf true any (turnOf c w) e) ≡ whole) (sym q) h
 
     by-tests : (w : ℕ) (l p m : Bool) → w ≡ cond l (e .worker) 0 → (eqb (e .kind) turnsOff ≡ true → any ≡ anyBusy (c .state .workers) (c .state .w))
+        → (p && (l && readyB (c .state .n) (workerOf c w) (e .code) (e .a) (e .b))) ≡ false
         → ltb (e .worker) (c .state .w) ≡ l → eqb (e .kind) aRequest ≡ p → eqb (e .kind) aMove ≡ m → over (putTurn c w) (happenOf l any (turnOf c w) e) ≡ whole
-    by-tests w true true m q h hl hp hm = known w q (asks hl hp)
-    by-tests w false true m q h hl hp hm = asks-none w hl hp
-    by-tests w true false true q h hl hp hm = known w q (moves hl hp hm)
-    by-tests w false false true q h hl hp hm = moves-none w hl hp hm
-    by-tests w l false false q h hl hp hm = toggles w l h hp hm
+    by-tests w true true m q h y hl hp hm =
+        known w q (asks hl hp (ap (λ (v : ℕ). readyB (c .state .n) (workerOf c v) (e .code) (e .a) (e .b)) (sym q) ∙ y))
+    by-tests w false true m q h y hl hp hm = asks-none w hl hp
+    by-tests w true false true q h y hl hp hm = known w q (moves hl hp hm)
+    by-tests w false false true q h y hl hp hm = moves-none w hl hp hm
+    by-tests w l false false q h y hl hp hm = toggles w l h hp hm
 
   -- by its worker's turn, put back in its slot
   pub event-is : {any : Bool} {w : ℕ} {o : Outcome Turn} → (eqb (e .kind) turnsOff ≡ true → any ≡ anyBusy (c .state .workers) (c .state .w))
-      → w ≡ slotOf (e .worker) (c .state .w) → o ≡ happenOf (ltb (e .worker) (c .state .w)) any (turnOf c w) e → over (putTurn c w) o ≡ whole
-  unfolding slotOf
-  event-is {any} {w} h q p =
-      ap (over (putTurn c w)) p ∙ by-tests any w (ltb (e .worker) (c .state .w)) (eqb (e .kind) aRequest) (eqb (e .kind) aMove) q h refl refl refl
+      → w ≡ slotOf (e .worker) (c .state .w) → quickB (c .state .w) (c .state .n) (workerOf c w) e ≡ false
+      → o ≡ happenOf (ltb (e .worker) (c .state .w)) any (turnOf c w) e → over (putTurn c w) o ≡ whole
+  unfolding slotOf quickB
+  event-is {any} {w} h q y p =
+      ap (over (putTurn c w)) p ∙ by-tests any w (ltb (e .worker) (c .state .w)) (eqb (e .kind) aRequest) (eqb (e .kind) aMove) q h y refl refl refl
 
 -- ---- a run
 
@@ -139,13 +178,21 @@ pub record Going (events page₀ bits₀ answers₀ : List ℕ) (s₀ : State) (
   pub places : length answers ≡ length answers₀
   pub same : ran (config s page bits) answers ≡ runOf events k (ran (config s₀ page₀ bits₀) answers₀)
 
+-- by the record put back
+pub put-by : (s : State) (w : ℕ) {k l : Worker} {page bits : List ℕ} → k ≡ l → config (putWorker s w k) page bits ≡ config (putWorker s w l) page bits
+put-by s w e = simp e
+
 -- one event more
-pub run-more : (events : List ℕ) (k : ℕ) (c : Config) (answers : List ℕ) (x : Run) {o : Outcome Config} {after : List ℕ} → o ≡ eventAt events k c
-    → after ≡ set (set answers (k * answerWords) (o .number)) (k * answerWords + 1) (o .value) → ran c answers ≡ runOf events k x
-    → ran (o .after) after ≡ runOf events (k + 1) x
+pub run-more : (events : List ℕ) (k : ℕ) (c : Config) (answers : List ℕ) (x : Run) {o : Outcome Config} {d : Config} {after : List ℕ} → o ≡ eventAt events k c
+    → d ≡ o .after → after ≡ set (set answers (k * answerWords) (o .number)) (k * answerWords + 1) (o .value) → ran c answers ≡ runOf events k x
+    → ran d after ≡ runOf events (k + 1) x
 unfolding runOf
-run-more events k c answers x {o} p e q =
-    ap (λ (l : List ℕ). ran (o .after) l) e ∙ ap (told k (ran c answers)) p ∙ ap (turnAt events k) q ∙ ap (λ (m : ℕ). runOf events m x) (sym (add-one k))
+run-more events k c answers x {o} {d} {after} p z e q =
+    ap (λ (d : Config). ran d after) z
+    ∙ ap (λ (l : List ℕ). ran (o .after) l) e
+    ∙ ap (told k (ran c answers)) p
+    ∙ ap (turnAt events k) q
+    ∙ ap (λ (m : ℕ). runOf events m x) (sym (add-one k))
 
 -- what came, by the reply given back
 pub came-run-by : {r s : Reply} {page bits answers : List ℕ} → r ≡ s → cameRun r page bits answers ≡ cameRun s page bits answers

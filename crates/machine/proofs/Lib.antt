@@ -1,7 +1,6 @@
 pub mod Passing
 pub mod GuardArms
 pub mod FreshArms
-pub mod SwitchArms
 pub mod ReaderArms
 pub mod AskArms
 pub mod RequestArms
@@ -12,4 +11,3 @@ pub mod FreshStart
 pub mod Entries
 pub mod Totals
 pub mod Unchanged
-pub mod Sequences

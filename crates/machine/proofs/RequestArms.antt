@@ -22,7 +22,7 @@ use Rattle.machine.specs.declared.Reply.{Reply}
 use Rattle.machine.specs.Config.{Config, config, came, stateOf, blank, workerOf, lentOf, listsOf, starterOf, putLists, putStarter, over, rulesB}
 use Rattle.machine.specs.Table.{insert, pop, append, extend, release, askEmpty, table, argumentsFitB, anyNamed, ownUnsound, linkUnsound, walkBroken, testsOf, requestRefusal}
 use Rattle.machine.specs.Requests.{atOnceAct, requestAct, requestOf}
-use Rattle.machine.specs.Parts.{Asker, askerOf, putAsker, ofLists, atOnceOf, ofStarter, askOf}
+use Rattle.machine.specs.Parts.{Asker, askerOf, putAsker, ofLists, atOnceOf, ofStarter, readyB, beginOf, askOf}
 
 -- what came, by the reply given back
 pub came-by : {r s : Reply} {page bits : List ℕ} → r ≡ s → came r page bits ≡ came s page bits
@@ -236,14 +236,13 @@ module _ (c : Config) (w a b : ℕ) where
   refused-5 code r l p q = simp (r, l, p, q)
 
   asks : (code : ℕ) → rulesB c ≡ true → ltb w (c .state .w) ≡ true → over (putAsker c w) (askOf (c .state .on) (askerOf c w) code a b) ≡ requestOf c w code a b
-  unfolding askOf
+  unfolding askOf readyB beginOf
   asks code r l = go (argumentsFitB (c .state .n) code a b) (busyB (workerOf c w)) (stagedB code) refl refl refl
     where
       go : (f v s : Bool) → argumentsFitB (c .state .n) code a b ≡ f → busyB (workerOf c w) ≡ v → stagedB code ≡ s
           → over (putAsker c w)
-          (cond (not f) (refused noSuch (askerOf c w))
-          (cond v (refused busy (askerOf c w))
-          (cond s (ofStarter (askerOf c w) (startOf (c .state .n) (c .state .on) (starterOf c w) code a)) (ofLists (askerOf c w) (atOnceOf (listsOf c w) code a b)))))
+          (cond (f && (not v && not s)) (ofLists (askerOf c w) (atOnceOf (listsOf c w) code a b))
+          (ofStarter (askerOf c w) (cond (not f) (refused noSuch (starterOf c w)) (cond v (refused busy (starterOf c w)) (startOf (c .state .n) (c .state .on) (starterOf c w) code a)))))
           ≡ requestOf c w code a b
       go false v s p q z = stays noSuch ∙ refused-4 code r l p
       go true true s p q z = stays busy ∙ refused-5 code r l p q

@@ -5,8 +5,8 @@ use mathlib.Core.Bool.{Bool, true, false, not, cond}
 use mathlib.Core.List.{List}
 use lib.Dec.{eqb}
 use lib.Seq.{set-getD}
-use Rattle.answers.specs.Numbers.{done, noSuch, busy, switched, notEmpty}
-use Rattle.answers.specs.Rows.{first, Outcome, outcome, unless}
+use Rattle.answers.specs.Numbers.{done, badPage, noSuch, busy, switched, notEmpty}
+use Rattle.answers.specs.Rows.{first, Outcome, outcome, refused, unless}
 use Rattle.words.specs.Tagged.{tagOf, addressOf}
 use Rattle.staged.specs.declared.Worker.{Worker}
 use Rattle.machine.specs.declared.toggle.Toggled.{Toggled}
@@ -50,6 +50,15 @@ module _ (c : Config) where
       (λ (l : List Worker). outcome (r .number) (r .value)
       (config (stateOf (c .state .n) (c .state .bw) (c .state .w) (c .state .shared) (r .tagged) (r .on) l) (c .page) (c .bits)))
       (set-getD (c .state .workers) w blank)
+
+  -- where the page rules are broken
+  pub on-refused : rulesB c ≡ false → refused badPage c ≡ switchOnOf c
+  unfolding switchOnOf onRefusal first
+  on-refused r = simp r
+
+  pub off-refused : rulesB c ≡ false → refused badPage c ≡ switchOffOf c
+  unfolding switchOffOf offRefusal first
+  off-refused r = simp r
 
   by-on : (v : Bool) → withToggled (cond v (toggled switched 0 (c .state .tagged) (c .state .on)) (toggled done 0 0 true))
       ≡ unless (cond v switched done) c (outcome done 0 (withSwitch c true))

@@ -20,8 +20,8 @@ use Rattle.machine.specs.Config.{Config, workerOf, rulesB, listsOf, star
 use Rattle.machine.specs.Table.{insert, pop, append, extend, release, table, testsOf, requestRefusal, moveRefusal, onRefusal, offRefusal}
 use Rattle.machine.specs.Requests.{atOnceAct, requestAct, requestOf}
 use Rattle.machine.specs.Moves.{moveOf}
-use Rattle.machine.specs.Switch.{switchOnOf, switchOffOf}
-use Rattle.machine.specs.Total.{Answered, AllAnswered, MoveNumbers, FirstAt, requestRows, moveRows, ExactlyByRows}
+use Rattle.machine.specs.Switch.{withSwitch, switchOnOf, switchOffOf}
+use Rattle.machine.specs.Total.{Answered, AllAnswered, MoveNumbers, FirstAt, requestRows, moveRows, onRows, offRows, ExactlyByRows}
 
 -- ---- rows
 
@@ -151,10 +151,12 @@ move-numbers c w flag =
     go false false false false k e l = act k e l
 
 pub exactly-by-rows : ExactlyByRows
-unfolding requestOf moveOf table moveRefusal
+unfolding requestOf moveOf switchOnOf switchOffOf table moveRefusal onRefusal offRefusal
 exactly-by-rows = (
   λ c w code a b k l. both (unless-number c (requestRefusal c w code a b) (requestAct c w code a b) (request-act-small c w code a b) k l) (first-exactly k (requestRows c w code a b) (omega arith)),
   λ c w flag k l. both (unless-number c (moveRefusal c w) (over (putTurn c w) (moveAct (turnOf c w) flag)) (move-act-small (turnOf c w) flag) k l) (first-exactly k (moveRows c w) (omega arith)),
+  λ c k l. both (unless-number c (onRefusal c) (outcome done 0 (withSwitch c true)) (omega arith) k l) (first-exactly k (onRows c) (omega arith)),
+  λ c k l. both (unless-number c (offRefusal c) (outcome done (tagOf (c .state .tagged)) (withSwitch c false)) (omega arith) k l) (first-exactly k (offRows c) (omega arith)),
 )
   where
     both : {A B C : Type 0} → A ↔ B → B ↔ C → A ↔ C

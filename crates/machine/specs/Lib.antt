@@ -7,4 +7,3 @@ pub mod Parts
 pub mod Readers
 pub mod Events
 pub mod Total
-pub mod Exact

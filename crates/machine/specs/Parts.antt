@@ -1,7 +1,7 @@
 -- One worker's part of a request and of an event: its record, the head words, the switch and what is lent. The page rules are
 -- tested before.
 use Prim.Native.Nat.{ℕ, _+_, _*_}
-use mathlib.Core.Bool.{Bool, true, false, not, _||_, cond}
+use mathlib.Core.Bool.{Bool, true, false, not, _&&_, _||_, cond}
 use mathlib.Core.List.{List}
 use lib.Dec.{ltb, eqb}
 use lib.ListN.{getD}
@@ -75,11 +75,19 @@ ofStarter x o = outcome (o .number) (o .value) (asker (o .after .worker) (lent (
 
 -- ---- any request, of a worker that there is
 
+-- it acts at once: its arguments fit, the worker is free, and it is none of 6 to 12
+unfoldable pub readyB : ℕ → Worker → ℕ → ℕ → ℕ → Bool
+readyB n k code a b = argumentsFitB n code a b && (not (busyB k) && not (stagedB code))
+
+-- any other is refused with 4 or 5, or starts
+unfoldable pub beginOf : ℕ → Bool → Starter → ℕ → ℕ → ℕ → Outcome Starter
+beginOf n on x code a b =
+    cond (not (argumentsFitB n code a b)) (refused noSuch x) (cond (busyB (x .worker)) (refused busy x) (startOf n on x code a))
+
 unfoldable pub askOf : Bool → Asker → ℕ → ℕ → ℕ → Outcome Asker
 askOf on x code a b =
-    cond (not (argumentsFitB (x .lent .n) code a b)) (refused noSuch x)
-    (cond (busyB (x .worker)) (refused busy x)
-    (cond (stagedB code) (ofStarter x (startOf (x .lent .n) on (starterIn x) code a)) (ofLists x (atOnceOf (listsIn x) code a b))))
+    cond (readyB (x .lent .n) (x .worker) code a b) (ofLists x (atOnceOf (listsIn x) code a b))
+    (ofStarter x (beginOf (x .lent .n) on (starterIn x) code a b))
 
 -- ---- T's switch: its word and whether it is on
 
@@ -130,16 +138,23 @@ byWorkerB kind = eqb kind aRequest || eqb kind aMove
 abbrev pub ofToggled : Turn → Toggled → Outcome Turn
 ofToggled t r = outcome (r .number) (r .value) (turn (t .worker) (t .shared) (r .tagged) (r .on) (t .lent))
 
--- the worker's record and what is lent alone change
-abbrev pub ofAsker : Turn → Outcome Asker → Outcome Turn
-ofAsker t o = outcome (o .number) (o .value) (turn (o .after .worker) (t .shared) (t .tagged) (t .on) (o .after .lent))
+-- a request that acts at once, of one of the workers: it changes own and got alone
+unfoldable pub quickB : ℕ → ℕ → Worker → Event → Bool
+quickB workers n k e = eqb (e .kind) aRequest && (ltb (e .worker) workers && readyB n k (e .code) (e .a) (e .b))
 
--- known: there is such a worker; any: some worker has an operation under way
+-- the worker's record and the bitmap alone change
+abbrev pub ofBegun : Turn → Outcome Starter → Outcome Turn
+ofBegun t o =
+    outcome (o .number) (o .value)
+    (turn (o .after .worker) (t .shared) (t .tagged) (t .on) (lent (t .lent .n) (t .lent .bw) (t .lent .page) (o .after .bits)))
+
+-- any other event. known: there is such a worker; any: some worker has an operation under way
 unfoldable pub happenOf : Bool → Bool → Turn → Event → Outcome Turn
 happenOf known any t e =
     cond (not (byWorkerB (e .kind))) (ofToggled t (toggleOf (e .kind) any (t .tagged) (t .on)))
     (cond (not known) (refused noWorker t)
-    (cond (eqb (e .kind) aMove) (moveOf t (flagOf (e .code))) (ofAsker t (askOf (t .on) (asker (t .worker) (t .lent)) (e .code) (e .a) (e .b)))))
+    (cond (eqb (e .kind) aMove) (moveOf t (flagOf (e .code)))
+    (ofBegun t (beginOf (t .lent .n) (t .on) (starter (t .worker) (t .lent .bits)) (e .code) (e .a) (e .b)))))
 
 -- the place of a worker's record; of one that there is not, the first
 unfoldable pub slotOf : ℕ → ℕ → ℕ

@@ -9,11 +9,12 @@ use lib.Dec.{eqb, ltb}
 use lib.ListN.{getD}
 use Rattle.answers.specs.Numbers.{done, underWay, badPage, noWorker, noSuch, busy, idle, switched, notEmpty, listed, noneLeft, damaged}
 use Rattle.answers.specs.Rows.{Row, row, Outcome}
+use Rattle.words.specs.Tagged.{addressOf}
 use Rattle.page.specs.Keeps.{Keeps}
 use Rattle.staged.specs.Operations.{takesB, onTaggedB, busyB, oneOf}
 use Rattle.staged.specs.Damage.{damagedB}
 use Rattle.machine.specs.Config.{Config, lentOf, workerOf, turnOf, blank, rulesB}
-use Rattle.machine.specs.Table.{pop, testsOf}
+use Rattle.machine.specs.Table.{pop, testsOf, anyBusy}
 use Rattle.machine.specs.Requests.{requestOf}
 use Rattle.machine.specs.Moves.{moveOf}
 use Rattle.machine.specs.Switch.{switchOnOf, switchOffOf}
@@ -50,10 +51,20 @@ abbrev pub moveRows : Config → ℕ → List Row
 moveRows c w =
     row badPage (not (rulesB c)) ∷ row noWorker (not (ltb w (c .state .w))) ∷ row idle (not (busyB (workerOf c w))) ∷ row damaged (damagedB (turnOf c w)) ∷ []
 
+abbrev pub onRows : Config → List Row
+onRows c = row badPage (not (rulesB c)) ∷ row switched (c .state .on) ∷ []
+
+abbrev pub offRows : Config → List Row
+offRows c =
+    row badPage (not (rulesB c)) ∷ row busy (anyBusy (c .state .workers) (c .state .w)) ∷ row switched (not (c .state .on))
+    ∷ row notEmpty (not (eqb (addressOf (c .state .tagged)) 0)) ∷ []
+
 abbrev pub ExactlyByRows : Type 0
 ExactlyByRows =
     ((c : Config) (w code a b k : ℕ) → 2 ≤ k → (requestOf c w code a b .number ≡ k) ↔ FirstAt k (requestRows c w code a b))
     × ((c : Config) (w : ℕ) (flag : Bool) (k : ℕ) → 2 ≤ k → (moveOf c w flag .number ≡ k) ↔ FirstAt k (moveRows c w))
+    × ((c : Config) (k : ℕ) → 2 ≤ k → (switchOnOf c .number ≡ k) ↔ FirstAt k (onRows c))
+    × ((c : Config) (k : ℕ) → 2 ≤ k → (switchOffOf c .number ≡ k) ↔ FirstAt k (offRows c))
 
 -- ---- what never changes, in any state
 

@@ -3,7 +3,9 @@ ghost use mathlib.Core.Path.{_≡_};
 ghost use Rattle.page.specs.Page.{lent};
 ghost use Rattle.lists.specs.Lists.{lists, came};
 ghost use Rattle.machine.specs.Table.{argumentsFitB};
-ghost use Rattle.machine.specs.Parts.{asked, asker, answered, atOnceOf, askOf};
+ghost use Rattle.staged.specs.Start.{starter, begins, started};
+ghost use Rattle.machine.specs.Config.{withHeads};
+ghost use Rattle.machine.specs.Parts.{asked, asker, answered, atOnceOf, readyB, beginOf, askOf};
 use answers::BUSY;
 use answers::NO_SUCH;
 use lists::Heads;
@@ -16,10 +18,9 @@ use lists::prepend_contiguous_blocks;
 use page::is_block;
 use page::is_run;
 use staged::Worker;
-use staged::operations::AWAIT_TAG;
-use staged::operations::PUSH_SHARED;
 use staged::operations::is_busy;
 use staged::operations::is_staged;
+use staged::start::Begun;
 use staged::start::start;
 use staged::start::start_fits;
 
@@ -60,7 +61,7 @@ fn arguments_fit(n: u64, code: u64, a: u64, b: u64) -> bool
 }
 
 // The requests that act at once on own and got.
-fn at_once(
+pub fn at_once(
     own: u64,
     got: u64,
     n: u64,
@@ -83,6 +84,53 @@ fn at_once(
     }
 }
 
+// Own and got alone change.
+pub fn with_heads(k: Worker, own: u64, got: u64) -> Worker
+    ensures { λ r. ⌜ r ≡ withHeads k own got ⌝ }
+{
+    let mut next = k;
+    next.own = own;
+    next.got = got;
+    next
+}
+
+// Whether a request acts at once: its arguments fit, the worker is free, and it is none of 6 to 12.
+pub fn is_ready(k: Worker, n: u64, code: u64, a: u64, b: u64) -> bool
+    ensures { λ r. ⌜ r ≡ readyB n k code a b ⌝ }
+{
+    if !arguments_fit(n, code, a, b) {
+        return false;
+    }
+    if is_busy(k) {
+        return false;
+    }
+    !is_staged(code)
+}
+
+// A refusal: the record stays.
+fn refuse(k: Worker, number: u64) -> Begun
+    ensures { λ r. ⌜ r ≡ begins number k ⌝ }
+{
+    Begun {
+        number,
+        value: 0,
+        worker: k,
+    }
+}
+
+// Any other request: refused with 4 or 5, or an operation's start.
+pub fn begin(k: Worker, n: u64, on: bool, bits: &mut [u64], code: u64, a: u64, b: u64) -> Begun
+    ensures { λ r. ⌜ started r (now (bits .exit)) ≡ beginOf n on (starter k (now (bits .entry))) code a b ⌝ }
+{
+    if !arguments_fit(n, code, a, b) {
+        return refuse(k, NO_SUCH);
+    }
+    if is_busy(k) {
+        return refuse(k, BUSY);
+    }
+    start(k, n, on, bits, code, a)
+}
+
 // An answer and a record.
 fn give(number: u64, value: u64, worker: Worker) -> Asked
     ensures { λ r. ⌜ r ≡ asked number value worker ⌝ }
@@ -94,7 +142,7 @@ fn give(number: u64, value: u64, worker: Worker) -> Asked
     }
 }
 
-// A request: refused with 4 or 5, else decided by its code.
+// A request: one that acts at once, or any other.
 pub fn ask(
     k: Worker,
     n: u64,
@@ -108,24 +156,11 @@ pub fn ask(
 ) -> Asked
     ensures { λ r. ⌜ answered n bw r (now (page .exit)) (now (bits .exit)) ≡ askOf on (asker k (lent n bw (now (page .entry)) (now (bits .entry)))) code a b ⌝ }
 {
-    if !arguments_fit(n, code, a, b) {
-        return give(NO_SUCH, 0, k);
+    if is_ready(k, n, code, a, b) {
+        let r = at_once(k.own, k.got, n, bw, page, bits, code, a, b);
+        return give(r.number, r.value, with_heads(k, r.own, r.got));
     }
-    if is_busy(k) {
-        return give(BUSY, 0, k);
-    }
-    match code {
-        PUSH_SHARED..=AWAIT_TAG => {
-            let r = start(k, n, on, bits, code, a);
-            let worker = r.worker;
-            give(r.number, r.value, worker)
-        }
-        _ => {
-            let r = at_once(k.own, k.got, n, bw, page, bits, code, a, b);
-            let mut worker = k;
-            worker.own = r.own;
-            worker.got = r.got;
-            give(r.number, r.value, worker)
-        }
-    }
+    let r = begin(k, n, on, bits, code, a, b);
+    let worker = r.worker;
+    give(r.number, r.value, worker)
 }

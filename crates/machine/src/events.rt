@@ -8,11 +8,14 @@ ghost use Rattle.machine.specs.Events.{eventWords, answerWords, ran, cam
 ghost use Rattle.machine.specs.Parts.{eventIn, slotOf};
 use crate::Reply;
 use crate::State;
+use crate::ask::with_heads;
 use crate::guards::any_busy;
 use crate::guards::refuse;
 use crate::guards::rules;
 use crate::happen::Event;
+use crate::happen::act;
 use crate::happen::happen;
+use crate::happen::is_quick;
 use crate::toggle::TURNS_OFF;
 use answers::BAD_PAGE;
 use answers::DONE;
@@ -77,17 +80,23 @@ fn run(
         let j = k;
         k += 1;
         let e = read(events, j);
-        let mut busy = false;
-        if e.kind == TURNS_OFF {
-            busy = any_busy(s);
-        }
-        let known = e.worker < s.w;
         let w = slot(e.worker, s.w);
         let q = s.workers[w];
+        if is_quick(e, s.w, s.n, q) {
+            let r = act(q, s.n, s.bw, &mut *page, &mut *bits, e);
+            let after = with_heads(q, r.own, r.got);
+            s.workers[w] = after;
+            put(&mut *answers, j, r.number, r.value);
+            continue;
+        }
+        let mut any = false;
+        if e.kind == TURNS_OFF {
+            any = any_busy(s);
+        }
         let r = happen(
             q,
-            known,
-            busy,
+            s.w,
+            any,
             s.n,
             s.bw,
             s.shared,

@@ -1,11 +1,16 @@
 // One event on one worker's record, the head words, the switch and the lent slices. The page rules are tested before.
 ghost use mathlib.Core.Path.{_≡_};
 ghost use Rattle.page.specs.Page.{lent};
+ghost use Rattle.lists.specs.Lists.{lists, came};
 ghost use Rattle.staged.specs.Damage.{turn};
-ghost use Rattle.machine.specs.Parts.{byWorkerB, turned, happened, happenOf};
-use crate::ask::ask;
+ghost use lib.Dec.{ltb};
+ghost use Rattle.machine.specs.Parts.{byWorkerB, turned, happened, atOnceOf, quickB, happenOf};
+use crate::ask::at_once;
+use crate::ask::begin;
+use crate::ask::is_ready;
 use crate::toggle::toggle;
 use answers::NO_WORKER;
+use lists::Heads;
 use staged::Worker;
 use staged::moves::make;
 
@@ -56,11 +61,31 @@ fn by_worker(kind: u64) -> bool
     kind == A_MOVE
 }
 
-// An event: a request or a move of a worker that is known, or T switched. Whether any worker is busy matters at off alone.
+// Whether an event is a request that acts at once, of one of the workers: k is that worker's record.
+pub fn is_quick(e: Event, workers: u64, n: u64, k: Worker) -> bool
+    ensures { λ r. ⌜ r ≡ quickB workers n k e ⌝ }
+{
+    if e.kind != A_REQUEST {
+        return false;
+    }
+    if workers <= e.worker {
+        return false;
+    }
+    is_ready(k, n, e.code, e.a, e.b)
+}
+
+// What that request does to own and got.
+pub fn act(k: Worker, n: u64, bw: u64, page: &mut [u64], bits: &mut [u64], e: Event) -> Heads
+    ensures { λ r. ⌜ came n bw r (now (page .exit)) (now (bits .exit)) ≡ atOnceOf (lists (k .own) (k .got) n bw (now (page .entry)) (now (bits .entry))) (e .code) (e .a) (e .b) ⌝ }
+{
+    at_once(k.own, k.got, n, bw, page, bits, e.code, e.a, e.b)
+}
+
+// Any other event: a request or a move of a worker, or T switched. Whether any worker is busy matters at off alone.
 pub fn happen(
     k: Worker,
-    known: bool,
-    busy: bool,
+    workers: u64,
+    any: bool,
     n: u64,
     bw: u64,
     shared: u64,
@@ -70,13 +95,13 @@ pub fn happen(
     bits: &mut [u64],
     e: Event,
 ) -> Turned
-    ensures { λ r. ⌜ happened n bw r (now (page .exit)) (now (bits .exit)) ≡ happenOf known busy (turn k shared tagged on (lent n bw (now (page .entry)) (now (bits .entry)))) e ⌝ }
+    ensures { λ r. ⌜ happened n bw r (now (page .exit)) (now (bits .exit)) ≡ happenOf (ltb (e .worker) workers) any (turn k shared tagged on (lent n bw (now (page .entry)) (now (bits .entry)))) e ⌝ }
 {
     if !by_worker(e.kind) {
-        let r = toggle(e.kind, busy, tagged, on);
+        let r = toggle(e.kind, any, tagged, on);
         return give(r.number, r.value, shared, r.tagged, r.on, k);
     }
-    if !known {
+    if workers <= e.worker {
         return give(NO_WORKER, 0, shared, tagged, on, k);
     }
     if e.kind == A_MOVE {
@@ -84,7 +109,7 @@ pub fn happen(
         let worker = r.worker;
         return give(r.number, r.value, r.shared, r.tagged, on, worker);
     }
-    let r = ask(k, n, bw, on, page, bits, e.code, e.a, e.b);
+    let r = begin(k, n, on, bits, e.code, e.a, e.b);
     let worker = r.worker;
     give(r.number, r.value, shared, tagged, on, worker)
 }

@@ -1,28 +1,29 @@
 // T switched on and off. No public function has a requires.
 ghost use mathlib.Core.Path.{_≡_};
-ghost use Rattle.machine.specs.Config.{config, came, stateOf};
+ghost use Rattle.machine.specs.Config.{config, came, reply, stateOf};
 ghost use Rattle.machine.specs.Switch.{switchOnOf, switchOffOf};
 use crate::Reply;
 use crate::State;
 use crate::guards::any_busy;
 use crate::guards::refuse;
 use crate::guards::rules;
+use crate::toggle::Toggled;
+use crate::toggle::toggle_off;
+use crate::toggle::toggle_on;
 use answers::BAD_PAGE;
-use answers::BUSY;
-use answers::DONE;
-use answers::NOT_EMPTY;
-use answers::SWITCHED;
-use words::masked_ptr_delay_get_delay;
-use words::masked_ptr_delay_get_ptr;
 
-// The state with T 0, on or off.
-fn with_switch(state: State, on: bool) -> State
-    ensures { λ r. ⌜ r ≡ stateOf (state .n) (state .bw) (state .w) (state .shared) 0 on (state .workers) ⌝ }
+// The answer, with T's word and its switch in the state.
+fn with_toggled(state: State, t: Toggled) -> Reply
+    ensures { λ r. ⌜ r ≡ reply (t .number) (t .value) (stateOf (state .n) (state .bw) (state .w) (state .shared) (t .tagged) (t .on) (state .workers)) ⌝ }
 {
     let mut next = state;
-    next.tagged = 0;
-    next.on = on;
-    next
+    next.tagged = t.tagged;
+    next.on = t.on;
+    Reply {
+        number: t.number,
+        value: t.value,
+        state: next,
+    }
 }
 
 // Switches T on: it becomes 0.
@@ -32,14 +33,8 @@ pub fn switch_on(state: State, page: &[u64], bits: &[u64]) -> Reply
     if !rules(state.n, state.bw, state.w, page.len(), bits.len()) {
         return refuse(BAD_PAGE, state);
     }
-    if state.on {
-        return refuse(SWITCHED, state);
-    }
-    Reply {
-        number: DONE,
-        value: 0,
-        state: with_switch(state, true),
-    }
+    let t = toggle_on(state.tagged, state.on);
+    with_toggled(state, t)
 }
 
 // Switches T off: the tag is told, and T becomes 0. A T that holds a list is refused, and not dropped.
@@ -49,18 +44,7 @@ pub fn switch_off(state: State, page: &[u64], bits: &[u64]) -> Reply
     if !rules(state.n, state.bw, state.w, page.len(), bits.len()) {
         return refuse(BAD_PAGE, state);
     }
-    if any_busy(state) {
-        return refuse(BUSY, state);
-    }
-    if !state.on {
-        return refuse(SWITCHED, state);
-    }
-    if masked_ptr_delay_get_ptr(state.tagged) != 0 {
-        return refuse(NOT_EMPTY, state);
-    }
-    Reply {
-        number: DONE,
-        value: masked_ptr_delay_get_delay(state.tagged),
-        state: with_switch(state, false),
-    }
+    let any = any_busy(state);
+    let t = toggle_off(any, state.tagged, state.on);
+    with_toggled(state, t)
 }

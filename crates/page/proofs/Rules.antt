@@ -1,9 +1,9 @@
 -- Laws of the page: a test that is true gives its facts, its facts give the test, and block and address lead to each other.
 -- Assumes nothing.
 use Prim.Native.Nat.{ℕ, _+_, _*_, _/_, _%_, _≤_, _<_}
-use mathlib.Core.Path.{_≡_, refl, ap, _∙_}
+use mathlib.Core.Path.{_≡_, refl, sym, ap, _∙_}
 use mathlib.Core.Logic.{_≢_, _↔_}
-use mathlib.Core.Bool.{true, false, _&&_, cond}
+use mathlib.Core.Bool.{Bool, true, false, _&&_, cond, true≢false}
 use mathlib.Core.List.{[], _∷_}
 use native.Mathlib.Nat.{mul-left-comm, mul-comm, mul-assoc, mul-pos, mul-le-mul, mul-le-mul-right, mul-lt-mul-of-pos-right, eq-of-mul-eq-mul-right, div-add-mod', div-le-of-le-mul, le-div-iff-mul-le, mul-div-cancel, mul-div-mul-left, mul-mod-left}
 use native.Mathlib.Omega.{arith}
@@ -206,10 +206,6 @@ module _ (n bw h : ℕ) where
         high = div-le-of-le-mul (8 * bw) (leb-true _ _ (all-at l 4 e));
       }
 
-  -- a good head is a multiple of 8·bw
-  pub good-whole : Good n bw h → h % (8 * bw) ≡ 0
-  good-whole g = ap (λ (x : ℕ). x % (8 * bw)) (g .is) ∙ address-whole bw (blockOf bw h)
-
   -- what is no block's address is not good
   pub good-not : (Good n bw h → ⊥) → goodB n bw h ≡ false
   good-not f = refuted _ (λ e. f (good-facts e))
@@ -229,6 +225,14 @@ good-test n bw i s w l m =
 -- the facts of a good head pass the test
 pub good-of : (n bw h : ℕ) → Good n bw h → goodB n bw h ≡ true
 good-of n bw h g = ap (goodB n bw) (g .is) ∙ good-test n bw (blockOf bw h) (g .some) (g .narrow) (g .low) (g .high)
+
+-- with a block's number, a head is good if it is that block's address
+pub good-is : (n bw h : ℕ) → 1 ≤ bw → bw ≤ maxWidth → 1 ≤ blockOf bw h → blockOf bw h ≤ n → eqb (blockOf bw h * (8 * bw)) h ≡ goodB n bw h
+good-is n bw h s w l m = go (eqb (blockOf bw h * (8 * bw)) h) refl
+  where
+    go : (y : Bool) → eqb (blockOf bw h * (8 * bw)) h ≡ y → y ≡ goodB n bw h
+    go true e = sym (good-of n bw h (record { some = s; narrow = w; is = sym (eqb-true _ _ e) ∙ mul-left-comm (blockOf bw h) 8 bw; low = l; high = m }))
+    go false e = sym (good-not n bw h (λ g. true≢false (sym (eq-eqb _ _ (mul-left-comm (blockOf bw h) 8 bw ∙ sym (g .is))) ∙ e)))
 
 -- ---- sound heads
 

@@ -137,16 +137,14 @@ pub fn good(n: u64, bw: u64, h: u64) -> bool
         return false;
     }
     let size = 8 * bw;
-    if h % size != 0 {
+    let i = h / size;
+    if i < 1 {
         return false;
     }
-    if h < size {
+    if n < i {
         return false;
     }
-    if n < h / size {
-        return false;
-    }
-    true
+    i * size == h
 }
 
 // Whether h is 0, or the address of a block whose bit is set.

@@ -2,3 +2,4 @@ pub mod Operations
 pub mod Start
 pub mod Damage
 pub mod Moves
+pub mod Exact

@@ -1,11 +1,12 @@
 -- `machine::happen::happen` meets its contract. Assumes nothing.
 use mathlib.Core.Path.{refl, _∙_}
-use borrow.Author.Needs.{needs}
-use borrow.Author.Tests.{eq-eqb, ne-eqb}
+use borrow.Author.Tests.{eq-eqb, ne-eqb, lt-ltb, le-ltb}
+use lib.Dec.{ltb}
 use Rattle.answers.proofs.Rows.{by-not}
 use Rattle.page.specs.Page.{lent}
 use Rattle.staged.specs.Damage.{turn}
 use Rattle.machine.proofs.EventArms.{happened-by, happen-is}
+use borrow.Author.Needs.{needs}
 use Rattle.machine.proofs.happen.happen.Statement.{statement}
 use Rattle.machine.proofs.happen.happen.Tie as tie
 
@@ -22,7 +23,7 @@ returns : tie.Need-returns
 returns c =
     let x = c .before .before .before .before .before .before .args in
     happened-by (c .give .ensures)
-    ∙ happen-is (x .known) (x .busy) (turn (x .k) (x .shared) (x .tagged) (x .on) (lent (x .n) (x .bw) (x .page .now) (x .bits .now))) (x .e)
+    ∙ happen-is (ltb (x .e .worker) (x .workers)) (x .any) (turn (x .k) (x .shared) (x .tagged) (x .on) (lent (x .n) (x .bw) (x .page .now) (x .bits .now))) (x .e)
     (by-not (c .before .before .before .by-worker .ensures) (c .before .before .if1 .taken)) refl refl (c .before .toggle .ensures) refl refl
 
 give-requires-2 : tie.Need-give-requires-2
@@ -30,10 +31,11 @@ give-requires-2 c κs = search needs
 
 returns-2 : tie.Need-returns-2
 returns-2 c =
-    let x = c .before .before .before .before .before .before .args in
+    let e = c .before .before .before in
+    let x = e .before .before .before .before .args in
     happened-by (c .give2 .ensures)
-    ∙ happen-is (x .known) (x .busy) (turn (x .k) (x .shared) (x .tagged) (x .on) (lent (x .n) (x .bw) (x .page .now) (x .bits .now))) (x .e)
-    (by-not (c .before .before .before .by-worker .ensures) (c .before .before .if1 .left)) (by-not refl (c .before .if2 .taken)) refl refl refl refl
+    ∙ happen-is (ltb (x .e .worker) (x .workers)) (x .any) (turn (x .k) (x .shared) (x .tagged) (x .on) (lent (x .n) (x .bw) (x .page .now) (x .bits .now))) (x .e)
+    (by-not (e .before .by-worker .ensures) (e .if1 .left)) (le-ltb _ _ (c .before .if2 .taken)) refl refl refl refl
 
 make-requires : tie.Need-make-requires
 make-requires c κs = search needs
@@ -49,13 +51,16 @@ same-length-2 c = search needs
 
 returns-3 : tie.Need-returns-3
 returns-3 c =
-    let x = c .before .before .before .before .before .before .before .before .before .before .before .before .before .before .before .args in
+    let t = c .before .before .before .before .before .before .before .before in
+    let d = t .before .before in
+    let e = d .before .before in
+    let x = e .before .before .before .before .args in
     happened-by (c .give3 .ensures)
-    ∙ happen-is (x .known) (x .busy) (turn (x .k) (x .shared) (x .tagged) (x .on) (lent (x .n) (x .bw) (x .page .now) (x .bits .now))) (x .e)
-    (by-not (c .before .before .before .before .before .before .before .before .before .before .before .before .by-worker .ensures) (c .before .before .before .before .before .before .before .before .before .before .before .if1 .left)) (by-not refl (c .before .before .before .before .before .before .before .before .before .before .if2 .left)) (eq-eqb _ _ (c .before .before .before .before .before .before .before .before .if3 .taken)) refl (c .before .before .before .before .make .ensures) refl
+    ∙ happen-is (ltb (x .e .worker) (x .workers)) (x .any) (turn (x .k) (x .shared) (x .tagged) (x .on) (lent (x .n) (x .bw) (x .page .now) (x .bits .now))) (x .e)
+    (by-not (e .before .by-worker .ensures) (e .if1 .left)) (lt-ltb _ _ (d .if2 .left)) (eq-eqb _ _ (t .if3 .taken)) refl (c .before .before .before .before .make .ensures) refl
 
-ask-requires : tie.Need-ask-requires
-ask-requires c κs = search needs
+begin-requires : tie.Need-begin-requires
+begin-requires c κs = search needs
 
 give-requires-4 : tie.Need-give-requires-4
 give-requires-4 c κs = search needs
@@ -63,15 +68,15 @@ give-requires-4 c κs = search needs
 same-length-3 : tie.Need-same-length-3
 same-length-3 c = search needs
 
-same-length-4 : tie.Need-same-length-4
-same-length-4 c = search needs
-
 returns-4 : tie.Need-returns-4
 returns-4 c =
-    let x = c .before .before .before .before .before .before .before .before .before .before .before .before .before .before .before .before .args in
+    let t = c .before .before .before .before .before .before in
+    let d = t .before .before in
+    let e = d .before .before in
+    let x = e .before .before .before .before .args in
     happened-by (c .give4 .ensures)
-    ∙ happen-is (x .known) (x .busy) (turn (x .k) (x .shared) (x .tagged) (x .on) (lent (x .n) (x .bw) (x .page .now) (x .bits .now))) (x .e)
-    (by-not (c .before .before .before .before .before .before .before .before .before .before .before .before .before .by-worker .ensures) (c .before .before .before .before .before .before .before .before .before .before .before .before .if1 .left)) (by-not refl (c .before .before .before .before .before .before .before .before .before .before .before .if2 .left)) (ne-eqb _ _ (c .before .before .before .before .before .before .before .before .before .if3 .left)) refl refl (c .before .before .before .before .before .before .ask .ensures)
+    ∙ happen-is (ltb (x .e .worker) (x .workers)) (x .any) (turn (x .k) (x .shared) (x .tagged) (x .on) (lent (x .n) (x .bw) (x .page .now) (x .bits .now))) (x .e)
+    (by-not (e .before .by-worker .ensures) (e .if1 .left)) (lt-ltb _ _ (d .if2 .left)) (ne-eqb _ _ (t .if3 .left)) refl refl (c .before .before .before .before .begin .ensures)
 
 pub happen-spec : {M : Type 1} → statement M
 happen-spec =
@@ -88,8 +93,7 @@ happen-spec =
     same-length
     same-length-2
     returns-3
-    ask-requires
+    begin-requires
     give-requires-4
     same-length-3
-    same-length-4
     returns-4)

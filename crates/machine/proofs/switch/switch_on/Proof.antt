@@ -1,9 +1,10 @@
 -- `machine::switch::switch_on` meets its contract. Assumes nothing.
-use mathlib.Core.Path.{refl, _∙_}
-use borrow.Author.Needs.{needs}
+use mathlib.Core.Path.{ap, _∙_}
 use Rattle.answers.proofs.Rows.{by-not}
-use Rattle.machine.proofs.GuardArms.{came-by, gives}
-use Rattle.machine.proofs.SwitchArms.{switch-on-is}
+use Rattle.machine.specs.Config.{config, rulesB}
+use Rattle.machine.proofs.GuardArms.{came-by}
+use Rattle.machine.proofs.ToggleArms.{withToggled, on-refused, switches-on}
+use borrow.Author.Needs.{needs}
 use Rattle.machine.proofs.switch.switch_on.Statement.{statement}
 use Rattle.machine.proofs.switch.switch_on.Tie as tie
 
@@ -14,21 +15,25 @@ refuse-requires : tie.Need-refuse-requires
 refuse-requires c κs = search needs
 
 returns : tie.Need-returns
-returns c = came-by (c .refuse .ensures) ∙ switch-on-is _ (by-not (c .before .before .rules .ensures) (c .before .if1 .taken)) refl
+unfolding rulesB
+returns c =
+    came-by (c .refuse .ensures) ∙ on-refused _ (by-not (c .before .before .rules .ensures) (c .before .if1 .taken))
 
-refuse-requires-2 : tie.Need-refuse-requires-2
-refuse-requires-2 c κs = search needs
+toggle-on-requires : tie.Need-toggle-on-requires
+toggle-on-requires c κs = search needs
+
+with-toggled-requires : tie.Need-with-toggled-requires
+with-toggled-requires c κs = search needs
 
 returns-2 : tie.Need-returns-2
-returns-2 c = came-by (c .refuse2 .ensures) ∙ switch-on-is _ (by-not (c .before .before .before .rules .ensures) (c .before .before .if1 .left)) (c .before .if2 .taken)
-
-with-switch-requires : tie.Need-with-switch-requires
-with-switch-requires c κs = search needs
-
-returns-3 : tie.Need-returns-3
-returns-3 c =
-    gives refl (c .with-switch .ensures) refl
-    ∙ switch-on-is _ (by-not (c .before .before .before .rules .ensures) (c .before .before .if1 .left)) (c .before .if2 .left)
+unfolding rulesB
+returns-2 c =
+    let e = c .before .before in
+    let x = e .before .before .before .before .args in
+    let here = config (x .state) (x .page .now) (x .bits .now) in
+    came-by (c .with-toggled .ensures)
+    ∙ ap (withToggled here) (c .before .toggle-on .ensures)
+    ∙ switches-on here (by-not (e .before .rules .ensures) (e .if1 .left))
 
 pub switch-on-spec : {M : Type 1} → statement M
 switch-on-spec =
@@ -37,7 +42,6 @@ switch-on-spec =
     rules-requires
     refuse-requires
     returns
-    refuse-requires-2
-    returns-2
-    with-switch-requires
-    returns-3)
+    toggle-on-requires
+    with-toggled-requires
+    returns-2)
