@@ -108,11 +108,13 @@ extern "C" {
 
 /// Makes a fresh state of n blocks of bw words for W workers. The bitmap is zeroed, the page stays. Refused, all words
 /// of the state are 0.
+#[inline]
 pub fn fresh(state: &mut State, page: &[u64], bits: &mut [u64], n: u64, bw: u64, w: u64) -> Numbers {
     unsafe { albmerik_fresh(state.as_mut_ptr(), page.as_ptr(), page.len(), bits.as_mut_ptr(), bits.len(), n, bw, w) }
 }
 
 /// A worker's request, by its number 1 to 13.
+#[inline]
 pub fn request(
     state: &mut State,
     page: &mut [u64],
@@ -138,21 +140,25 @@ pub fn request(
 }
 
 /// A worker's move; any nonzero flag is set.
+#[inline]
 pub fn make_move(state: &mut State, page: &mut [u64], bits: &[u64], worker: u64, flag: u64) -> Numbers {
     unsafe { albmerik_move(state.as_mut_ptr(), page.as_mut_ptr(), page.len(), bits.as_ptr(), bits.len(), worker, flag) }
 }
 
 /// Switches T on.
+#[inline]
 pub fn on(state: &mut State, page: &[u64], bits: &[u64]) -> Numbers {
     unsafe { albmerik_on(state.as_mut_ptr(), page.as_ptr(), page.len(), bits.as_ptr(), bits.len()) }
 }
 
 /// Switches T off.
+#[inline]
 pub fn off(state: &mut State, page: &[u64], bits: &[u64]) -> Numbers {
     unsafe { albmerik_off(state.as_mut_ptr(), page.as_ptr(), page.len(), bits.as_ptr(), bits.len()) }
 }
 
 /// Runs events in order, [`EVENT_WORDS`] words each, and writes [`ANSWER_WORDS`] words for each.
+#[inline]
 pub fn events(state: &mut State, page: &mut [u64], bits: &mut [u64], events: &[u64], answers: &mut [u64]) -> Numbers {
     unsafe {
         albmerik_events(
@@ -170,21 +176,25 @@ pub fn events(state: &mut State, page: &mut [u64], bits: &mut [u64], events: &[u
 }
 
 /// How many blocks are on a list or in a hand.
+#[inline]
 pub fn listed_count(state: &State, page: &[u64], bits: &[u64]) -> Numbers {
     unsafe { albmerik_listed_count(state.as_ptr(), page.as_ptr(), page.len(), bits.as_ptr(), bits.len()) }
 }
 
 /// The smallest block that is neither on a list nor in a hand.
+#[inline]
 pub fn first_unlisted(state: &State, page: &[u64], bits: &[u64]) -> Numbers {
     unsafe { albmerik_first_unlisted(state.as_ptr(), page.as_ptr(), page.len(), bits.as_ptr(), bits.len()) }
 }
 
 /// Whether block a's entry may be viewed: number 0, or 2, 4 or 9.
+#[inline]
 pub fn entry_answer(state: &State, page: &[u64], bits: &[u64], a: u64) -> Numbers {
     unsafe { albmerik_entry_answer(state.as_ptr(), page.as_ptr(), page.len(), bits.as_ptr(), bits.len(), a) }
 }
 
 /// The count of equal leading words of two entries.
+#[inline]
 pub fn compare_entries(state: &State, page: &[u64], bits: &[u64], a: u64, b: u64) -> Numbers {
     unsafe { albmerik_compare_entries(state.as_ptr(), page.as_ptr(), page.len(), bits.as_ptr(), bits.len(), a, b) }
 }
