@@ -14,46 +14,42 @@ pub enum Engine {
 
 pub const ENGINES: [Engine; 3] = [Engine::Ordinary, Engine::Events, Engine::Calls];
 
-/// A page and a bitmap of zeros, and room for the answers.
-#[derive(PartialEq)]
-pub struct Room {
-    pub page: Vec<u64>,
-    pub bits: Vec<u64>,
+/// An engine with its state, page and bitmap, and the answers so far.
+pub struct Run {
+    engine: Engine,
+    machine: Machine,
+    state: State,
+    page: Vec<u64>,
+    bits: Vec<u64>,
     pub answers: Vec<u64>,
 }
 
-impl Room {
-    pub fn new(events: &[u64]) -> Room {
+impl Run {
+    /// A fresh start, with room for the answers of so many events.
+    pub fn fresh(engine: Engine, count: usize) -> Run {
         let page = vec![0; ((N + 1) * BW) as usize];
-        Room { page, bits: vec![0; ((N + 64) / 64) as usize], answers: vec![0; events.len() / 5 * 2] }
+        let mut bits = vec![0; ((N + 64) / 64) as usize];
+        let mut state = [0; STATE_WORDS];
+        assert_eq!(ffi::fresh(&mut state, &page, &mut bits, N, BW, W).number, 0);
+        Run { engine, machine: Machine::fresh(N, BW, W), state, page, bits, answers: vec![0; 2 * count] }
     }
-}
 
-/// All events from a fresh start.
-pub fn run(engine: Engine, events: &[u64], room: &mut Room) {
-    let Room { page, bits, answers } = room;
-    match engine {
-        Engine::Ordinary => {
-            let mut machine = Machine::fresh(N, BW, W);
-            let whole = measured_ordinary(&mut machine, page, bits, events, answers);
-            assert_eq!(whole.number, 0);
-        }
-        Engine::Events => {
-            let mut state = fresh(page, bits);
-            let whole = measured_events(&mut state, page, bits, events, answers);
-            assert_eq!(whole.number, 0);
-        }
-        Engine::Calls => {
-            let mut state = fresh(page, bits);
-            measured_calls(&mut state, page, bits, events, answers);
-        }
+    /// Some of the events, whose answers begin at this event's place.
+    pub fn part(&mut self, events: &[u64], first: usize) {
+        let Run { engine, machine, state, page, bits, answers } = self;
+        let answers = &mut answers[2 * first..];
+        let whole = match engine {
+            Engine::Ordinary => measured_ordinary(machine, page, bits, events, answers),
+            Engine::Events => measured_events(state, page, bits, events, answers),
+            Engine::Calls => measured_calls(state, page, bits, events, answers),
+        };
+        assert_eq!(whole, Numbers { number: 0, value: events.len() as u64 / 5 });
     }
-}
 
-fn fresh(page: &[u64], bits: &mut [u64]) -> State {
-    let mut state = [0; STATE_WORDS];
-    assert_eq!(ffi::fresh(&mut state, page, bits, N, BW, W).number, 0);
-    state
+    /// Whether two runs were answered alike and left the same page and bitmap.
+    pub fn agrees(&self, other: &Run) -> bool {
+        self.answers == other.answers && self.page == other.page && self.bits == other.bits
+    }
 }
 
 // callgrind counts inside the functions named measured_*.
@@ -81,7 +77,13 @@ fn measured_events(
 }
 
 #[inline(never)]
-fn measured_calls(state: &mut State, page: &mut [u64], bits: &mut [u64], events: &[u64], answers: &mut [u64]) {
+fn measured_calls(
+    state: &mut State,
+    page: &mut [u64],
+    bits: &mut [u64],
+    events: &[u64],
+    answers: &mut [u64],
+) -> Numbers {
     for (event, answer) in events.chunks_exact(5).zip(answers.chunks_exact_mut(2)) {
         let given = match event[0] {
             1 => ffi::request(state, page, bits, event[1], event[2], event[3], event[4]),
@@ -90,4 +92,5 @@ fn measured_calls(state: &mut State, page: &mut [u64], bits: &mut [u64], events:
         answer[0] = given.number;
         answer[1] = given.value;
     }
+    Numbers { number: 0, value: events.len() as u64 / 5 }
 }

@@ -8,7 +8,7 @@ mod ordinary;
 use std::process::exit;
 use std::time::Instant;
 
-use engines::{run, Engine, Room, ENGINES};
+use engines::{Engine, Run, ENGINES};
 use mixes::{mix, MIXES};
 
 const HELP: &str = "bench times [REPEATS]       ns an event for each mix: ordinary, events, calls (best of REPEATS, 15)
@@ -20,37 +20,40 @@ Lines of numbers with tabs between them; bench/run makes a table of them.";
 
 /// A million requests; moves are counted with them.
 const EVENTS: usize = 1_000_000;
+/// A run is timed in parts of so many events, and the best time of each part counts: other work on the machine then spoils
+/// a part of one repeat, not all of it.
+const PART: usize = 50_000;
 /// Fewer for callgrind, which is slow.
 const COUNTED: usize = 100_000;
 
-/// The best time of each engine on a mix, in nanoseconds an event. All must leave the same answers, page and bitmap.
+/// The best times of each engine on a mix, in nanoseconds an event. All must leave the same answers, page and bitmap.
 fn times(kind: usize, repeats: usize) -> [f64; 3] {
     let events = mix(kind, EVENTS);
-    let mut best = [f64::MAX; 3];
+    let mut best = [[f64::MAX; EVENTS / PART]; 3];
     for _ in 0..repeats {
-        let mut rooms = Vec::new();
-        for (engine, best) in ENGINES.into_iter().zip(&mut best) {
-            let mut room = Room::new(&events);
-            let start = Instant::now();
-            run(engine, &events, &mut room);
-            *best = best.min(start.elapsed().as_secs_f64() * 1e9 / EVENTS as f64);
-            rooms.push(room);
+        let mut runs = ENGINES.map(|engine| Run::fresh(engine, EVENTS));
+        for (place, part) in events.chunks_exact(5 * PART).enumerate() {
+            for (run, best) in runs.iter_mut().zip(&mut best) {
+                let start = Instant::now();
+                run.part(part, place * PART);
+                best[place] = best[place].min(start.elapsed().as_secs_f64());
+            }
         }
-        for (room, engine) in rooms.iter().zip(ENGINES) {
-            if *room != rooms[0] {
+        for (run, engine) in runs.iter().zip(ENGINES) {
+            if !run.agrees(&runs[0]) {
                 eprintln!("bench: {engine:?} and ordinary Rust differ on the mix '{}'", MIXES[kind]);
                 exit(1);
             }
         }
     }
-    best
+    best.map(|parts| parts.iter().sum::<f64>() * 1e9 / EVENTS as f64)
 }
 
 fn once(engine: Engine, kind: usize) {
     let events = mix(kind, COUNTED);
-    let mut room = Room::new(&events);
-    run(engine, &events, &mut room);
-    println!("{}", room.answers.iter().sum::<u64>());
+    let mut run = Run::fresh(engine, COUNTED);
+    run.part(&events, 0);
+    println!("{}", run.answers.iter().sum::<u64>());
 }
 
 fn wrong(why: &str) -> ! {

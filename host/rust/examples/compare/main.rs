@@ -12,6 +12,7 @@ mod reading;
 mod scenes;
 mod world;
 
+use std::io::{self, Write};
 use std::process::ExitCode;
 
 use coverage::Coverage;
@@ -87,11 +88,29 @@ fn run(options: &Options, stage: &mut Stage) -> Result<[u64; SCENES.len()], Stri
     Ok(counts)
 }
 
+/// The tables, what came too seldom, and the last line.
+fn report(stage: &Stage, counts: &[u64], thin: &[String]) -> String {
+    let mut lines = Vec::new();
+    for (count, (name, ..)) in counts.iter().zip(SCENES) {
+        lines.push(format!("{name:<34}{count:>9}"));
+    }
+    lines.push(format!("{:<34}{:>9}\n", "events inside batches", stage.coverage.events_in_batches));
+    lines.push(stage.coverage.table());
+    lines.extend(thin.iter().map(|line| format!("compare: too seldom: {line}")));
+    lines.push(format!("compare: {} cases, 0 differ", stage.cases));
+    lines.join("\n")
+}
+
+/// Prints a line; a reader who has gone away is no error.
+fn say(text: &str) {
+    let _ = writeln!(io::stdout(), "{text}");
+}
+
 fn main() -> ExitCode {
     let options = match options() {
         Ok(Some(options)) => options,
         Ok(None) => {
-            println!("{HELP}");
+            say(HELP);
             return ExitCode::SUCCESS;
         }
         Err(wrong) => {
@@ -104,20 +123,11 @@ fn main() -> ExitCode {
     let counts = match run(&options, &mut stage) {
         Ok(counts) => counts,
         Err(difference) => {
-            println!("{difference}");
-            println!("compare: {} cases, 1 differs", stage.cases);
+            say(&format!("{difference}\ncompare: {} cases, 1 differs", stage.cases));
             return ExitCode::FAILURE;
         }
     };
-    for (count, (name, ..)) in counts.iter().zip(SCENES) {
-        println!("{name:<34}{count:>9}");
-    }
-    println!("{:<34}{:>9}\n", "events inside batches", stage.coverage.events_in_batches);
-    println!("{}", stage.coverage.table());
     let thin = if stage.cases >= ENOUGH { stage.coverage.thin() } else { Vec::new() };
-    for line in &thin {
-        println!("compare: too seldom: {line}");
-    }
-    println!("compare: {} cases, 0 differ", stage.cases);
+    say(&report(&stage, &counts, &thin));
     ExitCode::from(u8::from(!thin.is_empty()))
 }
