@@ -1,6 +1,6 @@
 //! The kinds of case. A scene makes a world and makes calls to it; each call is a case.
 
-use albmerik::ffi::STATE_WORDS;
+use albmerik::ffi::{Numbers, STATE_WORDS};
 
 use crate::batches;
 use crate::both::Both;
@@ -25,10 +25,24 @@ impl Stage {
 
     /// One case.
     pub fn call(&mut self, both: &mut Both, call: &Call) -> Result<(), String> {
+        self.answered(both, call).map(|_| ())
+    }
+
+    /// One case of a run from a fresh page: "a state reached from a fresh one never gives 11".
+    fn call_undamaged(&mut self, both: &mut Both, call: &Call) -> Result<(), String> {
+        match self.answered(both, call)?.number {
+            11 => {
+                Err(format!("number 11 in a run from a fresh page\ncall: {call:?}\nstate: {:?}", both.before().state()))
+            }
+            _ => Ok(()),
+        }
+    }
+
+    fn answered(&mut self, both: &mut Both, call: &Call) -> Result<Numbers, String> {
         self.cases += 1;
         let answer = both.call(call)?;
         self.coverage.note(both.before(), call, answer);
-        Ok(())
+        Ok(answer)
     }
 
     pub fn any_calls(&mut self, random: &mut Random, both: &mut Both, count: u64) -> Result<(), String> {
@@ -76,8 +90,11 @@ fn started(stage: &mut Stage, random: &mut Random, n: u64, bw: u64) -> Result<Bo
 fn runs(stage: &mut Stage, random: &mut Random) -> Result<(), String> {
     let (n, bw) = small_numbers(random);
     let mut both = started(stage, random, n, bw)?;
-    let count = random.between(1, 60);
-    stage.any_calls(random, &mut both, count)
+    for _ in 0..random.between(1, 60) {
+        let call = any_call(random, &both.archive);
+        stage.call_undamaged(&mut both, &call)?;
+    }
+    Ok(())
 }
 
 /// Thousands of requests and moves on one page, which is never started anew.
@@ -92,7 +109,7 @@ fn long_runs(stage: &mut Stage, random: &mut Random) -> Result<(), String> {
             3..=40 => request(random, &both.archive),
             _ => make_move(random, &both.archive),
         };
-        stage.call(&mut both, &call)?;
+        stage.call_undamaged(&mut both, &call)?;
     }
     Ok(())
 }
