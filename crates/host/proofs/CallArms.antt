@@ -13,9 +13,13 @@ use Rattle.machine.specs.Config.{Config, came}
 use Rattle.machine.specs.Requests.{requestOf}
 use Rattle.machine.specs.Events.{aRequest, Run, ran, cameRun, eventsOf}
 use Rattle.host.specs.declared.Answer.{Answer}
-use Rattle.host.specs.Spelling.{wordsOf}
+use Rattle.host.specs.Spelling.{spelled, wordsOf}
 use Rattle.host.specs.Calls.{held, gave, written, inWords, freshInWords, gaveRun, heldRun, runInWords}
 use Rattle.host.proofs.OneEvent.{one-request}
+
+-- what the machine makes of the state that was loaded, it makes of the state that the words spell
+pub of-spelled : {A : Type 0} (f : State → A) {x : A} {s : State} (words : List ℕ) → x ≡ f s → s ≡ spelled words → x ≡ f (spelled words)
+of-spelled f words p e = p ∙ ap f e
 
 -- the state's words, by whether the number refuses
 pub written-is : (words : List ℕ) (number v : ℕ) (s : State) {after : List ℕ} {b : Bool} → ltb number badPage ≡ b → after ≡ cond b (wordsOf s) words

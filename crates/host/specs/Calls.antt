@@ -4,14 +4,12 @@ use Prim.Native.Nat.{ℕ}
 use mathlib.Core.Bool.{cond}
 use mathlib.Core.List.{List}
 use lib.Dec.{ltb}
-use lib.ListN.{getD}
 use Rattle.answers.specs.Numbers.{badPage}
 use Rattle.answers.specs.Rows.{Outcome, outcome}
 use Rattle.answers.specs.declared.Answer as answers
-use Rattle.page.specs.Page.{Lent, lent}
 use Rattle.machine.specs.declared.State.{State}
 use Rattle.machine.specs.Config.{Config, config}
-use Rattle.machine.specs.Events.{Run, ran}
+use Rattle.machine.specs.Events.{Run}
 use Rattle.host.specs.declared.Answer.{Answer}
 use Rattle.host.specs.Spelling.{spelled, wordsOf}
 
@@ -35,10 +33,6 @@ gave r state page bits = outcome (r .number) (r .value) (held state page bits)
 -- the configuration that the words hold
 abbrev pub holding : List ℕ → List ℕ → List ℕ → Config
 holding state page bits = config (spelled state) page bits
-
--- the page's numbers in the state's words, and what is lent
-abbrev pub lending : List ℕ → List ℕ → List ℕ → Lent
-lending state page bits = lent (getD state 0 0) (getD state 1 0) page bits
 
 -- the state's words after an answer: those of the state given back, or as they were where the number refuses
 unfoldable pub written : List ℕ → ℕ → State → List ℕ

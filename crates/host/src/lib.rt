@@ -1,16 +1,19 @@
 // The machine for a host program in C or Rust: exported functions on numbers and lent words. The state is 70 words, an answer
 // is number and value. No function has a requires, and a refusal changes no word but those of a fresh start's state.
 ghost use mathlib.Core.Path.{_≡_};
-ghost use lib.ListN.{getD};
 ghost use Rattle.answers.specs.Rows.{outcome};
-ghost use Rattle.machine.specs.Config.{freshOf};
+ghost use Rattle.machine.specs.Config.{lentOf, freshOf};
 ghost use Rattle.machine.specs.Requests.{requestOf};
 ghost use Rattle.machine.specs.Moves.{moveOf};
 ghost use Rattle.machine.specs.Switch.{switchOnOf, switchOffOf};
 ghost use Rattle.machine.specs.Events.{flagOf, ran, cameRun, eventsOf};
 ghost use Rattle.machine.specs.Readers.{listedCountOf, firstUnlistedOf, entryAnswerOf, compareOf};
-ghost use Rattle.host.specs.Calls.{handedOf, gave, holding, lending, written, inWords, freshInWords, gaveRun, runInWords};
+ghost use Rattle.host.specs.Spelling.{spelled};
+ghost use Rattle.host.specs.Calls.{handedOf, gave, holding, written, inWords, freshInWords, gaveRun, runInWords};
+use crate::spelling::BW;
+use crate::spelling::N;
 use crate::spelling::STATE_WORDS;
+use crate::spelling::W;
 use crate::spelling::load;
 use crate::spelling::store;
 use answers::BAD_PAGE;
@@ -29,16 +32,16 @@ pub struct Answer {
 const A_REQUEST: u64 = 1;
 
 // Writes the state given back unless the number refuses, and hands the answer on.
-fn finish(words: &mut [u64; STATE_WORDS], reply: Reply) -> Answer
-    ensures { λ r. ⌜ outcome (r .number) (r .value) (now (words .exit)) ≡ outcome (reply .number) (reply .value) (written (now (words .entry)) (reply .number) (reply .state)) ⌝ }
+fn finish(words: &mut [u64; STATE_WORDS], after: Reply) -> Answer
+    ensures { λ r. ⌜ outcome (r .number) (r .value) (now (words .exit)) ≡ outcome (after .number) (after .value) (written (now (words .entry)) (after .number) (after .state)) ⌝ }
 {
-    if reply.number < BAD_PAGE {
-        let s = reply.state;
+    if after.number < BAD_PAGE {
+        let s = after.state;
         store(words, s);
     }
     Answer {
-        number: reply.number,
-        value: reply.value,
+        number: after.number,
+        value: after.value,
     }
 }
 
@@ -168,9 +171,9 @@ pub extern "C" fn albmerik_listed_count(
     page: &[u64],
     bits: &[u64],
 ) -> Answer
-    ensures { λ r. ⌜ r ≡ handedOf (listedCountOf (lending (now (state .entry)) (now (page .entry)) (now (bits .entry))) (getD (now (state .entry)) 2 0)) ⌝ }
+    ensures { λ r. ⌜ r ≡ handedOf (listedCountOf (lentOf (holding (now (state .entry)) (now (page .entry)) (now (bits .entry)))) (spelled (now (state .entry)) .w)) ⌝ }
 {
-    handed(machine::readers::listed_count(state[0], state[1], state[2], page, bits))
+    handed(machine::readers::listed_count(state[N], state[BW], state[W], page, bits))
 }
 
 // The smallest block that is not listed.
@@ -180,9 +183,9 @@ pub extern "C" fn albmerik_first_unlisted(
     page: &[u64],
     bits: &[u64],
 ) -> Answer
-    ensures { λ r. ⌜ r ≡ handedOf (firstUnlistedOf (lending (now (state .entry)) (now (page .entry)) (now (bits .entry))) (getD (now (state .entry)) 2 0)) ⌝ }
+    ensures { λ r. ⌜ r ≡ handedOf (firstUnlistedOf (lentOf (holding (now (state .entry)) (now (page .entry)) (now (bits .entry)))) (spelled (now (state .entry)) .w)) ⌝ }
 {
-    handed(machine::readers::first_unlisted(state[0], state[1], state[2], page, bits))
+    handed(machine::readers::first_unlisted(state[N], state[BW], state[W], page, bits))
 }
 
 // Which number applies to block a's entry.
@@ -193,9 +196,9 @@ pub extern "C" fn albmerik_entry_answer(
     bits: &[u64],
     a: u64,
 ) -> Answer
-    ensures { λ r. ⌜ r ≡ handedOf (entryAnswerOf (lending (now (state .entry)) (now (page .entry)) (now (bits .entry))) (getD (now (state .entry)) 2 0) a) ⌝ }
+    ensures { λ r. ⌜ r ≡ handedOf (entryAnswerOf (lentOf (holding (now (state .entry)) (now (page .entry)) (now (bits .entry)))) (spelled (now (state .entry)) .w) a) ⌝ }
 {
-    handed(machine::readers::entry_answer(state[0], state[1], state[2], page, bits, a))
+    handed(machine::readers::entry_answer(state[N], state[BW], state[W], page, bits, a))
 }
 
 // How many leading words of two entries are equal.
@@ -207,7 +210,7 @@ pub extern "C" fn albmerik_compare_entries(
     a: u64,
     b: u64,
 ) -> Answer
-    ensures { λ r. ⌜ r ≡ handedOf (compareOf (lending (now (state .entry)) (now (page .entry)) (now (bits .entry))) (getD (now (state .entry)) 2 0) a b) ⌝ }
+    ensures { λ r. ⌜ r ≡ handedOf (compareOf (lentOf (holding (now (state .entry)) (now (page .entry)) (now (bits .entry)))) (spelled (now (state .entry)) .w) a b) ⌝ }
 {
-    handed(machine::readers::compare_entries(state[0], state[1], state[2], page, bits, a, b))
+    handed(machine::readers::compare_entries(state[N], state[BW], state[W], page, bits, a, b))
 }

@@ -11,6 +11,19 @@ use staged::Worker;
 // How many words spell a state.
 pub const STATE_WORDS: usize = 70;
 
+// The places of n, bw, W, S, T and of whether T is on.
+pub const N: usize = 0;
+
+pub const BW: usize = 1;
+
+pub const W: usize = 2;
+
+const S: usize = 3;
+
+const T: usize = 4;
+
+const ON: usize = 5;
+
 // Where the worker records begin.
 const FIRST_RECORD: usize = 6;
 
@@ -53,12 +66,12 @@ pub fn load(words: &[u64; STATE_WORDS]) -> State
         worker_at(words, 7),
     ];
     State {
-        n: words[0],
-        bw: words[1],
-        w: words[2],
-        shared: words[3],
-        tagged: words[4],
-        on: words[5] != 0,
+        n: words[N],
+        bw: words[BW],
+        w: words[W],
+        shared: words[S],
+        tagged: words[T],
+        on: words[ON] != 0,
         workers,
     }
 }
@@ -84,12 +97,12 @@ pub fn store(words: &mut [u64], s: State)
     requires { ⌜ length (now words) ≡ stateWords ⌝ }
     ensures { λ r. ⌜ now (words .exit) ≡ wordsOf s ⌝ }
 {
-    words[0] = s.n;
-    words[1] = s.bw;
-    words[2] = s.w;
-    words[3] = s.shared;
-    words[4] = s.tagged;
-    words[5] = s.on as u64;
+    words[N] = s.n;
+    words[BW] = s.bw;
+    words[W] = s.w;
+    words[S] = s.shared;
+    words[T] = s.tagged;
+    words[ON] = s.on as u64;
     let mut i: usize = 0;
     while i < RECORDS {
         let k = s.workers[i];

@@ -1,6 +1,7 @@
 -- `host::albmerik_compare_entries` meets its contract. Assumes nothing.
 use mathlib.Core.Path.{ap, _∙_}
 use borrow.Author.Needs.{needs}
+use Rattle.host.specs.Spelling.{spelled}
 use Rattle.host.specs.Calls.{handedOf}
 use Rattle.host.proofs.albmerik_compare_entries.Statement.{statement}
 use Rattle.host.proofs.albmerik_compare_entries.Tie as tie
@@ -21,6 +22,7 @@ handed-requires : tie.Need-handed-requires
 handed-requires c κs = search needs
 
 returns : tie.Need-returns
+unfolding spelled
 returns c = c .handed .ensures ∙ ap handedOf (c .before .compare-entries .ensures)
 
 pub albmerik-compare-entries-spec : {M : Type 1} → statement M

@@ -1,9 +1,9 @@
 -- `host::run` meets its contract. Assumes nothing.
-use mathlib.Core.Path.{ap, _∙_}
 use borrow.Author.Needs.{needs}
 use Rattle.machine.specs.declared.State.{State}
 use Rattle.machine.specs.Config.{config}
 use Rattle.machine.specs.Events.{ran, eventsOf}
+use Rattle.host.proofs.CallArms.{of-spelled}
 use Rattle.host.proofs.run.Statement.{statement}
 use Rattle.host.proofs.run.Tie as tie
 
@@ -25,8 +25,7 @@ same-length-3 c = search needs
 returns : tie.Need-returns
 returns c =
     let x = c .before .before .before .before .before .before .before .before .before .before .before .before .before .before .before .args in
-    c .before .before .before .before .before .before .events .ensures
-    ∙ ap (λ (s : State). eventsOf (ran (config s (x .page .now) (x .bits .now)) (x .answers .now)) (x .events .now)) (c .before .before .before .before .before .before .before .before .before .before .load .ensures)
+    of-spelled (λ (s : State). eventsOf (ran (config s (x .page .now) (x .bits .now)) (x .answers .now)) (x .events .now)) (x .words .now) (c .before .before .before .before .before .before .events .ensures) (c .before .before .before .before .before .before .before .before .before .before .load .ensures)
 
 pub run-spec : {M : Type 1} → statement M
 run-spec =
