@@ -1,0 +1,4 @@
+pub mod Elements
+pub mod Spelled
+pub mod OneEvent
+pub mod CallArms

@@ -1,0 +1,121 @@
+-- `host::spelling::put_worker` meets its contract. Assumes nothing.
+use borrow.Author.Needs.{needs}
+use native.Mathlib.Omega.{arith}
+use lib.ListN.{length-set}
+use Rattle.host.specs.Spelling.{recordAt}
+use Rattle.host.proofs.Spelled.{record-is}
+use Rattle.host.proofs.spelling.put_worker.Statement.{statement}
+use Rattle.host.proofs.spelling.put_worker.Tie as tie
+
+mul-at : tie.Need-mul-at
+mul-at c = search needs
+
+add-at : tie.Need-add-at
+add-at c = search needs
+
+mul-words : tie.Need-mul-words
+mul-words c = search needs
+
+slice-write-words : tie.Need-slice-write-words
+slice-write-words c = search needs
+
+add-words : tie.Need-add-words
+add-words c = search needs
+
+mul-words-2 : tie.Need-mul-words-2
+mul-words-2 c = search needs
+
+slice-write-words-2 : tie.Need-slice-write-words-2
+slice-write-words-2 c = simp length-set (omega arith)
+
+add-words-2 : tie.Need-add-words-2
+add-words-2 c = search needs
+
+mul-words-3 : tie.Need-mul-words-3
+mul-words-3 c = search needs
+
+slice-write-words-3 : tie.Need-slice-write-words-3
+slice-write-words-3 c = simp length-set (omega arith)
+
+add-words-3 : tie.Need-add-words-3
+add-words-3 c = search needs
+
+mul-words-4 : tie.Need-mul-words-4
+mul-words-4 c = search needs
+
+slice-write-words-4 : tie.Need-slice-write-words-4
+slice-write-words-4 c = simp length-set (omega arith)
+
+add-words-4 : tie.Need-add-words-4
+add-words-4 c = search needs
+
+mul-words-5 : tie.Need-mul-words-5
+mul-words-5 c = search needs
+
+slice-write-words-5 : tie.Need-slice-write-words-5
+slice-write-words-5 c = simp length-set (omega arith)
+
+add-words-5 : tie.Need-add-words-5
+add-words-5 c = search needs
+
+mul-words-6 : tie.Need-mul-words-6
+mul-words-6 c = search needs
+
+slice-write-words-6 : tie.Need-slice-write-words-6
+slice-write-words-6 c = simp length-set (omega arith)
+
+add-words-6 : tie.Need-add-words-6
+add-words-6 c = search needs
+
+mul-words-7 : tie.Need-mul-words-7
+mul-words-7 c = search needs
+
+slice-write-words-7 : tie.Need-slice-write-words-7
+slice-write-words-7 c = simp length-set (omega arith)
+
+add-words-7 : tie.Need-add-words-7
+add-words-7 c = search needs
+
+mul-words-8 : tie.Need-mul-words-8
+mul-words-8 c = search needs
+
+slice-write-words-8 : tie.Need-slice-write-words-8
+slice-write-words-8 c = simp length-set (omega arith)
+
+same-length : tie.Need-same-length
+same-length c = search needs
+
+returns : tie.Need-returns
+returns c = record-is (c .args .words .now) (recordAt (c .args .i)) (c .args .k)
+
+pub put-worker-spec : {M : Type 1} → statement M
+put-worker-spec =
+    tie.close
+    (tie.spec
+    mul-at
+    add-at
+    mul-words
+    slice-write-words
+    add-words
+    mul-words-2
+    slice-write-words-2
+    add-words-2
+    mul-words-3
+    slice-write-words-3
+    add-words-3
+    mul-words-4
+    slice-write-words-4
+    add-words-4
+    mul-words-5
+    slice-write-words-5
+    add-words-5
+    mul-words-6
+    slice-write-words-6
+    add-words-6
+    mul-words-7
+    slice-write-words-7
+    add-words-7
+    mul-words-8
+    slice-write-words-8
+    same-length
+    returns)
