@@ -8,15 +8,14 @@ use borrow.Author.Tests.{ne-eqb}
 use Rattle.answers.specs.Numbers.{noSuch, busy}
 use Rattle.answers.specs.Rows.{Outcome, refused}
 use Rattle.page.specs.Page.{blockB, runB}
-use Rattle.lists.specs.Lists.{Lists}
+use Rattle.lists.specs.declared.Heads.{Heads}
+use Rattle.lists.specs.Lists.{Lists, came}
 use Rattle.lists.specs.Own.{emptyOf}
-use Rattle.staged.specs.declared.Worker.{Worker}
 use Rattle.staged.specs.Operations.{stagedB, busyB}
-use Rattle.staged.specs.declared.start.Begun.{Begun}
-use Rattle.staged.specs.Start.{Starter, started, startFitsB, startOf}
+use Rattle.staged.specs.Start.{Starter, startFitsB, startOf}
 use Rattle.machine.specs.declared.ask.Asked.{Asked}
 use Rattle.machine.specs.Table.{insert, pop, append, extend, release, askEmpty, argumentsFitB}
-use Rattle.machine.specs.Parts.{Asker, answered, listsIn, ofLists, atOnceOf, starterIn, ofStarter, readyB, beginOf, askOf}
+use Rattle.machine.specs.Parts.{Asker, answered, listsIn, ofLists, atOnceOf, starterIn, ofStarter, askListsOf, askOf}
 
 -- ---- the arguments
 
@@ -57,22 +56,17 @@ module _ (l : Lists) (code a b : ℕ) where
 pub answered-by : {n bw : ℕ} {r s : Asked} {page bits : List ℕ} → r ≡ s → answered n bw r page bits ≡ answered n bw s page bits
 answered-by e = simp e
 
-pub started-by : {r s : Begun} {bits : List ℕ} → r ≡ s → started r bits ≡ started s bits
-started-by e = simp e
-
--- by the arguments, the operation under way, and whether it is staged
-pub ready-is : (n : ℕ) (k : Worker) (code a b : ℕ) {f w s : Bool} → argumentsFitB n code a b ≡ f → busyB k ≡ w → stagedB code ≡ s → (f && (not w && not s)) ≡ readyB n k code a b
-unfolding readyB
-ready-is n k code a b p q s = simp (← p, ← q, ← s)
+pub heads-by : {n bw : ℕ} {r s : Heads} {page bits : List ℕ} → r ≡ s → came n bw r page bits ≡ came n bw s page bits
+heads-by e = simp e
 
 -- by the arguments and the operation under way
-pub begin-is : (n : ℕ) (on : Bool) (x : Starter) (code a b : ℕ) {f w : Bool} {o : Outcome Starter} → argumentsFitB n code a b ≡ f → busyB (x .worker) ≡ w → o ≡ startOf n on x code a
-    → cond (not f) (refused noSuch x) (cond w (refused busy x) o) ≡ beginOf n on x code a b
-unfolding beginOf
-begin-is n on x code a b p q e = simp (← p, ← q, e)
+pub ask-lists-is : (under : Bool) (l : Lists) (code a b : ℕ) {f w : Bool} {d : Outcome Lists} → argumentsFitB (l .lent .n) code a b ≡ f → under ≡ w → d ≡ atOnceOf l code a b
+    → cond (not f) (refused noSuch l) (cond w (refused busy l) d) ≡ askListsOf under l code a b
+unfolding askListsOf
+ask-lists-is under l code a b p q e = simp (← p, ← q, e)
 
--- by its acting at once
-pub ask-is : (on : Bool) (x : Asker) (code a b : ℕ) {y : Bool} {o : Outcome Starter} {d : Outcome Lists} → readyB (x .lent .n) (x .worker) code a b ≡ y
-    → o ≡ beginOf (x .lent .n) on (starterIn x) code a b → d ≡ atOnceOf (listsIn x) code a b → cond y (ofLists x d) (ofStarter x o) ≡ askOf on x code a b
+-- by its being staged
+pub ask-is : (on : Bool) (x : Asker) (code a b : ℕ) {y : Bool} {o : Outcome Starter} {d : Outcome Lists} → stagedB code ≡ y
+    → o ≡ startOf (x .lent .n) on (starterIn x) code a → d ≡ askListsOf (busyB (x .worker)) (listsIn x) code a b → cond y (ofStarter x o) (ofLists x d) ≡ askOf on x code a b
 unfolding askOf
 ask-is on x code a b p e d = simp (← p, e, d)

@@ -14,7 +14,8 @@ use Rattle.answers.proofs.Rows.{and-left, and-right}
 use Rattle.page.specs.Limits.{maxWorkers}
 use Rattle.lists.specs.Lists.{Lists}
 use Rattle.staged.specs.declared.Worker.{Worker}
-use Rattle.staged.specs.Start.{Starter, starter}
+use Rattle.staged.specs.Operations.{stagedB, busyB}
+use Rattle.staged.specs.Start.{Starter, starter, startOf}
 use Rattle.staged.specs.Damage.{Turn}
 use Rattle.staged.specs.Moves as staged
 use Rattle.machine.specs.declared.Reply.{Reply}
@@ -26,7 +27,7 @@ use Rattle.machine.specs.Config.{Config, config, workerOf, putWorker, li
 use Rattle.machine.specs.Table.{anyBusy}
 use Rattle.machine.specs.Switch.{switchOnOf, switchOffOf}
 use Rattle.machine.specs.Events.{eventWords, answerWords, aRequest, aMove, turnsOn, turnsOff, flagOf, eventOf, Run, ran, cameRun, told, eventAt, turnAt, runOf, eventsRefusal, eventsOf}
-use Rattle.machine.specs.Parts.{askerOf, atOnceOf, readyB, beginOf, toggled, toggleOnOf, toggleOffOf, toggleOf, happened, byWorkerB, ofToggled, quickB, ofBegun, happenOf, slotOf}
+use Rattle.machine.specs.Parts.{askerOf, askListsOf, toggled, toggleOnOf, toggleOffOf, toggleOf, happened, byWorkerB, ofToggled, quickB, ofBegun, happenOf, slotOf}
 use Rattle.machine.proofs.AskArms.{ask-is}
 use Rattle.machine.proofs.RequestArms.{most-workers, put-lists-same, request-is}
 use Rattle.machine.proofs.MoveArms.{move-is}
@@ -42,22 +43,30 @@ pub worker-is : (kind : ℕ) {p : Bool} → eqb kind aRequest ≡ p → (p || eq
 unfolding byWorkerB
 worker-is kind p = simp (← p)
 
--- by its being a request, the worker, and its acting at once
-pub quick-is : (workers n : ℕ) (k : Worker) (e : Event) {p l y : Bool} → eqb (e .kind) aRequest ≡ p → ltb (e .worker) workers ≡ l → y ≡ readyB n k (e .code) (e .a) (e .b)
-    → (p && (l && y)) ≡ quickB workers n k e
+-- by its being a request, the worker, and its being staged
+pub quick-is : (workers : ℕ) (e : Event) {p l y : Bool} → eqb (e .kind) aRequest ≡ p → ltb (e .worker) workers ≡ l → y ≡ stagedB (e .code)
+    → (p && (l && not y)) ≡ quickB workers e
 unfolding quickB
-quick-is workers n k e p l y = simp (← p, ← l, y)
+quick-is workers e p l y = simp (← p, ← l, y)
 
 module _ (known any : Bool) (t : Turn) (e : Event) where
   -- by whose event it is, the worker, and whether it is a move
   pub happen-is : {y n m : Bool} {r : Toggled} {o : Outcome Turn} {d : Outcome Starter} → byWorkerB (e .kind) ≡ y → known ≡ n → eqb (e .kind) aMove ≡ m
       → r ≡ toggleOf (e .kind) any (t .tagged) (t .on) → o ≡ staged.moveOf t (flagOf (e .code))
-      → d ≡ beginOf (t .lent .n) (t .on) (starter (t .worker) (t .lent .bits)) (e .code) (e .a) (e .b)
+      → d ≡ startOf (t .lent .n) (t .on) (starter (t .worker) (t .lent .bits)) (e .code) (e .a)
       → cond (not y) (ofToggled t r) (cond (not n) (refused noWorker t) (cond m o (ofBegun t d))) ≡ happenOf known any t e
   unfolding happenOf
   happen-is p q s r o d = simp (← p, ← q, ← s, r, o, d)
 
 -- ---- an event as a part of the whole
+
+not-true : (b : Bool) → not b ≡ true → b ≡ false
+not-true true e = sym e
+not-true false e = refl
+
+not-false : (b : Bool) → not b ≡ false → b ≡ true
+not-false true e = refl
+not-false false e = sym e
 
 pub slot-is : (worker workers : ℕ) {l : Bool} → ltb worker workers ≡ l → cond l worker 0 ≡ slotOf worker workers
 unfolding slotOf
@@ -80,33 +89,29 @@ module _ (c : Config) (e : Event) (r : rulesB c ≡ true) where
   stays : (w k : ℕ) → over (putTurn c w) (refused k (turnOf c w)) ≡ refused k c
   stays w k = simp (put-lists-same c w)
 
-  abbrev ready : Bool
-  ready = readyB (c .state .n) (workerOf c (e .worker)) (e .code) (e .a) (e .b)
-
-  -- a request that acts at once, by its worker's lists put back
-  acts : ltb (e .worker) (c .state .w) ≡ true → eqb (e .kind) aRequest ≡ true → ready ≡ true
-      → over (putLists c (e .worker)) (atOnceOf (listsOf c (e .worker)) (e .code) (e .a) (e .b)) ≡ whole
+  -- a request that is none of 6 to 12, by its worker's lists put back
+  acts : ltb (e .worker) (c .state .w) ≡ true → eqb (e .kind) aRequest ≡ true → stagedB (e .code) ≡ false
+      → over (putLists c (e .worker)) (askListsOf (busyB (workerOf c (e .worker))) (listsOf c (e .worker)) (e .code) (e .a) (e .b)) ≡ whole
   unfolding eventOf
   acts l p y = simp p (request-is c (e .worker) (e .a) (e .b) (e .code) r l (ask-is (c .state .on) (askerOf c (e .worker)) (e .code) (e .a) (e .b) y refl refl))
 
-  pub act-is : {w : ℕ} {o : Outcome Lists} → w ≡ slotOf (e .worker) (c .state .w) → quickB (c .state .w) (c .state .n) (workerOf c w) e ≡ true
-      → o ≡ atOnceOf (listsOf c w) (e .code) (e .a) (e .b) → over (putLists c w) o ≡ whole
+  pub act-is : {w : ℕ} {o : Outcome Lists} → w ≡ slotOf (e .worker) (c .state .w) → quickB (c .state .w) e ≡ true
+      → o ≡ askListsOf (busyB (workerOf c w)) (listsOf c w) (e .code) (e .a) (e .b) → over (putLists c w) o ≡ whole
   unfolding slotOf quickB
   act-is {w} q t d =
       let m = eqb (e .kind) aRequest in
       let n = ltb (e .worker) (c .state .w) in
-      let u = readyB (c .state .n) (workerOf c w) (e .code) (e .a) (e .b) in
+      let u = not (stagedB (e .code)) in
       let h = and-right m (n && u) t in
       let l = and-left n u h in
       let i : w ≡ e .worker = q ∙ ap (λ (v : Bool). cond v (e .worker) 0) l in
-      let y : ready ≡ true = ap (λ (v : ℕ). readyB (c .state .n) (workerOf c v) (e .code) (e .a) (e .b)) (sym i) ∙ and-right n u h in
       ap (over (putLists c w)) d
-      ∙ ap (λ (v : ℕ). over (putLists c v) (atOnceOf (listsOf c v) (e .code) (e .a) (e .b))) i
-      ∙ acts l (and-left m (n && u) t) y
+      ∙ ap (λ (v : ℕ). over (putLists c v) (askListsOf (busyB (workerOf c v)) (listsOf c v) (e .code) (e .a) (e .b))) i
+      ∙ acts l (and-left m (n && u) t) (not-true (stagedB (e .code)) (and-right n u h))
 
   -- a request or a move, of a worker that there is and of one that there is not
   module _ (any : Bool) where
-    asks : ltb (e .worker) (c .state .w) ≡ true → eqb (e .kind) aRequest ≡ true → ready ≡ false
+    asks : ltb (e .worker) (c .state .w) ≡ true → eqb (e .kind) aRequest ≡ true → stagedB (e .code) ≡ true
         → over (putTurn c (e .worker)) (happenOf true any (turnOf c (e .worker)) e) ≡ whole
     unfolding happenOf byWorkerB eventOf
     asks l p y =
@@ -144,10 +149,9 @@ module _ (c : Config) (e : Event) (r : rulesB c ≡ true) where
     known w q h = subst (λ (w : ℕ). over (putTurn c w) (happenOf true any (turnOf c w) e) ≡ whole) (sym q) h
 
     by-tests : (w : ℕ) (l p m : Bool) → w ≡ cond l (e .worker) 0 → (eqb (e .kind) turnsOff ≡ true → any ≡ anyBusy (c .state .workers) (c .state .w))
-        → (p && (l && readyB (c .state .n) (workerOf c w) (e .code) (e .a) (e .b))) ≡ false
+        → (p && (l && not (stagedB (e .code)))) ≡ false
         → ltb (e .worker) (c .state .w) ≡ l → eqb (e .kind) aRequest ≡ p → eqb (e .kind) aMove ≡ m → over (putTurn c w) (happenOf l any (turnOf c w) e) ≡ whole
-    by-tests w true true m q h y hl hp hm =
-        known w q (asks hl hp (ap (λ (v : ℕ). readyB (c .state .n) (workerOf c v) (e .code) (e .a) (e .b)) (sym q) ∙ y))
+    by-tests w true true m q h y hl hp hm = known w q (asks hl hp (not-false (stagedB (e .code)) y))
     by-tests w false true m q h y hl hp hm = asks-none w hl hp
     by-tests w true false true q h y hl hp hm = known w q (moves hl hp hm)
     by-tests w false false true q h y hl hp hm = moves-none w hl hp hm
@@ -155,7 +159,7 @@ module _ (c : Config) (e : Event) (r : rulesB c ≡ true) where
 
   -- by its worker's turn, put back in its slot
   pub event-is : {any : Bool} {w : ℕ} {o : Outcome Turn} → (eqb (e .kind) turnsOff ≡ true → any ≡ anyBusy (c .state .workers) (c .state .w))
-      → w ≡ slotOf (e .worker) (c .state .w) → quickB (c .state .w) (c .state .n) (workerOf c w) e ≡ false
+      → w ≡ slotOf (e .worker) (c .state .w) → quickB (c .state .w) e ≡ false
       → o ≡ happenOf (ltb (e .worker) (c .state .w)) any (turnOf c w) e → over (putTurn c w) o ≡ whole
   unfolding slotOf quickB
   event-is {any} {w} h q y p =

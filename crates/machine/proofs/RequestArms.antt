@@ -17,16 +17,12 @@ use Rattle.page.proofs.Rules.{workers-facts}
 use Rattle.lists.specs.Own.{insertAct, insertRefusal, insertOf, popAct, popRefusal, popOf, appendAct, appendRefusal, appendOf, extendAct, extendRefusal, extendOf, releaseAct, releaseRefusal, releaseOf, emptyAct, emptyRefusal, emptyOf}
 use Rattle.staged.specs.declared.Worker.{Worker}
 use Rattle.staged.specs.Operations.{pushShared, awaitTag, stagedB, pushesB, takesB, onTaggedB, offB, fullB, busyB}
-use Rattle.staged.specs.Start.{startFitsB, startAct, startRefusal, startOf}
-use Rattle.machine.specs.declared.Reply.{Reply}
-use Rattle.machine.specs.Config.{Config, config, came, stateOf, blank, workerOf, lentOf, listsOf, starterOf, putLists, putStarter, over, rulesB}
+use Rattle.staged.specs.Start.{Starter, startFitsB, startAct, startRefusal, startOf}
+use Rattle.machine.specs.Config.{Config, config, stateOf, blank, workerOf, lentOf, listsOf, starterOf, putLists, putStarter, over, rulesB}
 use Rattle.machine.specs.Table.{insert, pop, append, extend, release, askEmpty, table, argumentsFitB, anyNamed, ownUnsound, linkUnsound, walkBroken, testsOf, requestRefusal}
 use Rattle.machine.specs.Requests.{atOnceAct, requestAct, requestOf}
-use Rattle.machine.specs.Parts.{Asker, askerOf, putAsker, ofLists, atOnceOf, ofStarter, readyB, beginOf, askOf}
-
--- what came, by the reply given back
-pub came-by : {r s : Reply} {page bits : List ℕ} → r ≡ s → came r page bits ≡ came s page bits
-came-by e = simp e
+use Rattle.machine.specs.Parts.{Asker, askerOf, putAsker, ofLists, atOnceOf, ofStarter, askListsOf, askOf}
+use Rattle.machine.proofs.AskArms.{fit-staged}
 
 -- where the page rules are kept there are at most eight workers
 pub most-workers : (c : Config) → rulesB c ≡ true → c .state .w ≤ maxWorkers
@@ -212,6 +208,17 @@ module _ (c : Config) (w a b : ℕ) where
   started code s d =
       over-unless (putStarter c w) (starterOf c w) c (startAct (starterOf c w) code a) _ _ (put-lists-same c w) (refuses-start code s d) ∙ simp s
 
+  -- a start has the rows for 4 and 5 itself
+  start-unfit : (code : ℕ) → stagedB code ≡ true → argumentsFitB (c .state .n) code a b ≡ false
+      → startOf (c .state .n) (c .state .on) (starterOf c w) code a ≡ refused noSuch (starterOf c w)
+  unfolding startOf startRefusal first
+  start-unfit code s p = simp (fit-staged (c .state .n) code a b s ∙ p)
+
+  start-busy : (code : ℕ) → stagedB code ≡ true → argumentsFitB (c .state .n) code a b ≡ true → busyB (workerOf c w) ≡ true
+      → startOf (c .state .n) (c .state .on) (starterOf c w) code a ≡ refused busy (starterOf c w)
+  unfolding startOf startRefusal first
+  start-busy code s p q = simp (fit-staged (c .state .n) code a b s ∙ p, q)
+
   -- ---- the request
 
   -- a refusal of the part is one of the whole
@@ -236,16 +243,18 @@ module _ (c : Config) (w a b : ℕ) where
   refused-5 code r l p q = simp (r, l, p, q)
 
   asks : (code : ℕ) → rulesB c ≡ true → ltb w (c .state .w) ≡ true → over (putAsker c w) (askOf (c .state .on) (askerOf c w) code a b) ≡ requestOf c w code a b
-  unfolding askOf readyB beginOf
+  unfolding askOf askListsOf
   asks code r l = go (argumentsFitB (c .state .n) code a b) (busyB (workerOf c w)) (stagedB code) refl refl refl
     where
       go : (f v s : Bool) → argumentsFitB (c .state .n) code a b ≡ f → busyB (workerOf c w) ≡ v → stagedB code ≡ s
           → over (putAsker c w)
-          (cond (f && (not v && not s)) (ofLists (askerOf c w) (atOnceOf (listsOf c w) code a b))
-          (ofStarter (askerOf c w) (cond (not f) (refused noSuch (starterOf c w)) (cond v (refused busy (starterOf c w)) (startOf (c .state .n) (c .state .on) (starterOf c w) code a)))))
+          (cond s (ofStarter (askerOf c w) (startOf (c .state .n) (c .state .on) (starterOf c w) code a))
+          (ofLists (askerOf c w) (cond (not f) (refused noSuch (listsOf c w)) (cond v (refused busy (listsOf c w)) (atOnceOf (listsOf c w) code a b)))))
           ≡ requestOf c w code a b
-      go false v s p q z = stays noSuch ∙ refused-4 code r l p
-      go true true s p q z = stays busy ∙ refused-5 code r l p q
+      go false v false p q z = stays noSuch ∙ refused-4 code r l p
+      go true true false p q z = stays busy ∙ refused-5 code r l p q
+      go false v true p q z = ap (λ (o : Outcome Starter). over (putStarter c w) o) (start-unfit code z p) ∙ stays noSuch ∙ refused-4 code r l p
+      go true true true p q z = ap (λ (o : Outcome Starter). over (putStarter c w) o) (start-busy code z p q) ∙ stays busy ∙ refused-5 code r l p q
       go true false true p q z = started code z (record { rules = r; worker = l; arguments = p; free = q })
       go true false false p q z = once code z (record { rules = r; worker = l; arguments = p; free = q })
 

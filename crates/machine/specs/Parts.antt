@@ -75,19 +75,14 @@ ofStarter x o = outcome (o .number) (o .value) (asker (o .after .worker) (lent (
 
 -- ---- any request, of a worker that there is
 
--- it acts at once: its arguments fit, the worker is free, and it is none of 6 to 12
-unfoldable pub readyB : ℕ → Worker → ℕ → ℕ → ℕ → Bool
-readyB n k code a b = argumentsFitB n code a b && (not (busyB k) && not (stagedB code))
-
--- any other is refused with 4 or 5, or starts
-unfoldable pub beginOf : ℕ → Bool → Starter → ℕ → ℕ → ℕ → Outcome Starter
-beginOf n on x code a b =
-    cond (not (argumentsFitB n code a b)) (refused noSuch x) (cond (busyB (x .worker)) (refused busy x) (startOf n on x code a))
+-- none of 6 to 12: refused with 4 or 5, or it acts at once. under: the worker has an operation under way
+unfoldable pub askListsOf : Bool → Lists → ℕ → ℕ → ℕ → Outcome Lists
+askListsOf under l code a b =
+    cond (not (argumentsFitB (l .lent .n) code a b)) (refused noSuch l) (cond under (refused busy l) (atOnceOf l code a b))
 
 unfoldable pub askOf : Bool → Asker → ℕ → ℕ → ℕ → Outcome Asker
 askOf on x code a b =
-    cond (readyB (x .lent .n) (x .worker) code a b) (ofLists x (atOnceOf (listsIn x) code a b))
-    (ofStarter x (beginOf (x .lent .n) on (starterIn x) code a b))
+    cond (stagedB code) (ofStarter x (startOf (x .lent .n) on (starterIn x) code a)) (ofLists x (askListsOf (busyB (x .worker)) (listsIn x) code a b))
 
 -- ---- T's switch: its word and whether it is on
 
@@ -138,9 +133,9 @@ byWorkerB kind = eqb kind aRequest || eqb kind aMove
 abbrev pub ofToggled : Turn → Toggled → Outcome Turn
 ofToggled t r = outcome (r .number) (r .value) (turn (t .worker) (t .shared) (r .tagged) (r .on) (t .lent))
 
--- a request that acts at once, of one of the workers: it changes own and got alone
-unfoldable pub quickB : ℕ → ℕ → Worker → Event → Bool
-quickB workers n k e = eqb (e .kind) aRequest && (ltb (e .worker) workers && readyB n k (e .code) (e .a) (e .b))
+-- a request of one of the workers that is none of 6 to 12: it changes own and got alone
+unfoldable pub quickB : ℕ → Event → Bool
+quickB workers e = eqb (e .kind) aRequest && (ltb (e .worker) workers && not (stagedB (e .code)))
 
 -- the worker's record and the bitmap alone change
 abbrev pub ofBegun : Turn → Outcome Starter → Outcome Turn
@@ -154,7 +149,7 @@ happenOf known any t e =
     cond (not (byWorkerB (e .kind))) (ofToggled t (toggleOf (e .kind) any (t .tagged) (t .on)))
     (cond (not known) (refused noWorker t)
     (cond (eqb (e .kind) aMove) (moveOf t (flagOf (e .code)))
-    (ofBegun t (beginOf (t .lent .n) (t .on) (starter (t .worker) (t .lent .bits)) (e .code) (e .a) (e .b)))))
+    (ofBegun t (startOf (t .lent .n) (t .on) (starter (t .worker) (t .lent .bits)) (e .code) (e .a)))))
 
 -- the place of a worker's record; of one that there is not, the first
 unfoldable pub slotOf : ℕ → ℕ → ℕ

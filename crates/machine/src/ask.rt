@@ -1,11 +1,11 @@
 // A worker's part of a request: its record, the switch and the lent slices. The page rules and the worker are tested before.
 ghost use mathlib.Core.Path.{_≡_};
 ghost use Rattle.page.specs.Page.{lent};
-ghost use Rattle.lists.specs.Lists.{lists, came};
+ghost use Rattle.lists.specs.Lists.{lists, came, heads};
+ghost use Rattle.staged.specs.Operations.{busyB};
 ghost use Rattle.machine.specs.Table.{argumentsFitB};
-ghost use Rattle.staged.specs.Start.{starter, begins, started};
 ghost use Rattle.machine.specs.Config.{withHeads};
-ghost use Rattle.machine.specs.Parts.{asked, asker, answered, atOnceOf, readyB, beginOf, askOf};
+ghost use Rattle.machine.specs.Parts.{asked, asker, answered, atOnceOf, askListsOf, askOf};
 use answers::BUSY;
 use answers::NO_SUCH;
 use lists::Heads;
@@ -20,7 +20,6 @@ use page::is_run;
 use staged::Worker;
 use staged::operations::is_busy;
 use staged::operations::is_staged;
-use staged::start::Begun;
 use staged::start::start;
 use staged::start::start_fits;
 
@@ -61,7 +60,7 @@ fn arguments_fit(n: u64, code: u64, a: u64, b: u64) -> bool
 }
 
 // The requests that act at once on own and got.
-pub fn at_once(
+fn at_once(
     own: u64,
     got: u64,
     n: u64,
@@ -94,41 +93,38 @@ pub fn with_heads(k: Worker, own: u64, got: u64) -> Worker
     next
 }
 
-// Whether a request acts at once: its arguments fit, the worker is free, and it is none of 6 to 12.
-pub fn is_ready(k: Worker, n: u64, code: u64, a: u64, b: u64) -> bool
-    ensures { λ r. ⌜ r ≡ readyB n k code a b ⌝ }
+// A refusal: the heads stay.
+fn refuse(number: u64, own: u64, got: u64) -> Heads
+    ensures { λ r. ⌜ r ≡ heads number 0 own got ⌝ }
 {
-    if !arguments_fit(n, code, a, b) {
-        return false;
-    }
-    if is_busy(k) {
-        return false;
-    }
-    !is_staged(code)
-}
-
-// A refusal: the record stays.
-fn refuse(k: Worker, number: u64) -> Begun
-    ensures { λ r. ⌜ r ≡ begins number k ⌝ }
-{
-    Begun {
+    Heads {
         number,
         value: 0,
-        worker: k,
+        own,
+        got,
     }
 }
 
-// Any other request: refused with 4 or 5, or an operation's start.
-pub fn begin(k: Worker, n: u64, on: bool, bits: &mut [u64], code: u64, a: u64, b: u64) -> Begun
-    ensures { λ r. ⌜ started r (now (bits .exit)) ≡ beginOf n on (starter k (now (bits .entry))) code a b ⌝ }
+// A request that is none of 6 to 12: refused with 4 or 5, or it acts at once. `k` has the worker's own and got.
+pub fn ask_lists(
+    k: Worker,
+    n: u64,
+    bw: u64,
+    page: &mut [u64],
+    bits: &mut [u64],
+    code: u64,
+    a: u64,
+    b: u64,
+) -> Heads
+    ensures { λ r. ⌜ came n bw r (now (page .exit)) (now (bits .exit)) ≡ askListsOf (busyB k) (lists (k .own) (k .got) n bw (now (page .entry)) (now (bits .entry))) code a b ⌝ }
 {
     if !arguments_fit(n, code, a, b) {
-        return refuse(k, NO_SUCH);
+        return refuse(NO_SUCH, k.own, k.got);
     }
     if is_busy(k) {
-        return refuse(k, BUSY);
+        return refuse(BUSY, k.own, k.got);
     }
-    start(k, n, on, bits, code, a)
+    at_once(k.own, k.got, n, bw, page, bits, code, a, b)
 }
 
 // An answer and a record.
@@ -142,7 +138,7 @@ fn give(number: u64, value: u64, worker: Worker) -> Asked
     }
 }
 
-// A request: one that acts at once, or any other.
+// A request: an operation's start, or one on own and got.
 pub fn ask(
     k: Worker,
     n: u64,
@@ -156,11 +152,11 @@ pub fn ask(
 ) -> Asked
     ensures { λ r. ⌜ answered n bw r (now (page .exit)) (now (bits .exit)) ≡ askOf on (asker k (lent n bw (now (page .entry)) (now (bits .entry)))) code a b ⌝ }
 {
-    if is_ready(k, n, code, a, b) {
-        let r = at_once(k.own, k.got, n, bw, page, bits, code, a, b);
-        return give(r.number, r.value, with_heads(k, r.own, r.got));
+    if is_staged(code) {
+        let r = start(k, n, on, bits, code, a);
+        let worker = r.worker;
+        return give(r.number, r.value, worker);
     }
-    let r = begin(k, n, on, bits, code, a, b);
-    let worker = r.worker;
-    give(r.number, r.value, worker)
+    let r = ask_lists(k, n, bw, page, bits, code, a, b);
+    give(r.number, r.value, with_heads(k, r.own, r.got))
 }

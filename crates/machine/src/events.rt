@@ -82,7 +82,7 @@ fn run(
         let e = read(events, j);
         let w = slot(e.worker, s.w);
         let q = s.workers[w];
-        if is_quick(e, s.w, s.n, q) {
+        if is_quick(e, s.w) {
             let r = act(q, s.n, s.bw, &mut *page, &mut *bits, e);
             let after = with_heads(q, r.own, r.got);
             s.workers[w] = after;

@@ -2,17 +2,18 @@
 ghost use mathlib.Core.Path.{_≡_};
 ghost use Rattle.page.specs.Page.{lent};
 ghost use Rattle.lists.specs.Lists.{lists, came};
+ghost use Rattle.staged.specs.Operations.{busyB};
 ghost use Rattle.staged.specs.Damage.{turn};
 ghost use lib.Dec.{ltb};
-ghost use Rattle.machine.specs.Parts.{byWorkerB, turned, happened, atOnceOf, quickB, happenOf};
-use crate::ask::at_once;
-use crate::ask::begin;
-use crate::ask::is_ready;
+ghost use Rattle.machine.specs.Parts.{byWorkerB, turned, happened, askListsOf, quickB, happenOf};
+use crate::ask::ask_lists;
 use crate::toggle::toggle;
 use answers::NO_WORKER;
 use lists::Heads;
 use staged::Worker;
 use staged::moves::make;
+use staged::operations::is_staged;
+use staged::start::start;
 
 pub const A_REQUEST: u64 = 1;
 
@@ -61,9 +62,9 @@ fn by_worker(kind: u64) -> bool
     kind == A_MOVE
 }
 
-// Whether an event is a request that acts at once, of one of the workers: k is that worker's record.
-pub fn is_quick(e: Event, workers: u64, n: u64, k: Worker) -> bool
-    ensures { λ r. ⌜ r ≡ quickB workers n k e ⌝ }
+// Whether an event is a request of one of the workers that is none of 6 to 12.
+pub fn is_quick(e: Event, workers: u64) -> bool
+    ensures { λ r. ⌜ r ≡ quickB workers e ⌝ }
 {
     if e.kind != A_REQUEST {
         return false;
@@ -71,14 +72,14 @@ pub fn is_quick(e: Event, workers: u64, n: u64, k: Worker) -> bool
     if workers <= e.worker {
         return false;
     }
-    is_ready(k, n, e.code, e.a, e.b)
+    !is_staged(e.code)
 }
 
 // What that request does to own and got.
 pub fn act(k: Worker, n: u64, bw: u64, page: &mut [u64], bits: &mut [u64], e: Event) -> Heads
-    ensures { λ r. ⌜ came n bw r (now (page .exit)) (now (bits .exit)) ≡ atOnceOf (lists (k .own) (k .got) n bw (now (page .entry)) (now (bits .entry))) (e .code) (e .a) (e .b) ⌝ }
+    ensures { λ r. ⌜ came n bw r (now (page .exit)) (now (bits .exit)) ≡ askListsOf (busyB k) (lists (k .own) (k .got) n bw (now (page .entry)) (now (bits .entry))) (e .code) (e .a) (e .b) ⌝ }
 {
-    at_once(k.own, k.got, n, bw, page, bits, e.code, e.a, e.b)
+    ask_lists(k, n, bw, page, bits, e.code, e.a, e.b)
 }
 
 // Any other event: a request or a move of a worker, or T switched. Whether any worker is busy matters at off alone.
@@ -109,7 +110,7 @@ pub fn happen(
         let worker = r.worker;
         return give(r.number, r.value, r.shared, r.tagged, on, worker);
     }
-    let r = begin(k, n, on, bits, e.code, e.a, e.b);
+    let r = start(k, n, on, bits, e.code, e.a);
     let worker = r.worker;
     give(r.number, r.value, shared, tagged, on, worker)
 }

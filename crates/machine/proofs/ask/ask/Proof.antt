@@ -9,14 +9,11 @@ use borrow.Author.Needs.{needs}
 use Rattle.machine.proofs.ask.ask.Statement.{statement}
 use Rattle.machine.proofs.ask.ask.Tie as tie
 
-is-ready-requires : tie.Need-is-ready-requires
-is-ready-requires c κs = search needs
+is-staged-requires : tie.Need-is-staged-requires
+is-staged-requires c κs = search needs
 
-at-once-requires : tie.Need-at-once-requires
-at-once-requires c κs = search needs
-
-with-heads-requires : tie.Need-with-heads-requires
-with-heads-requires c κs = search needs
+start-requires : tie.Need-start-requires
+start-requires c κs = search needs
 
 give-requires : tie.Need-give-requires
 give-requires c κs = search needs
@@ -24,47 +21,47 @@ give-requires c κs = search needs
 same-length : tie.Need-same-length
 same-length c = search needs
 
-same-length-2 : tie.Need-same-length-2
-same-length-2 c = search needs
-
 returns : tie.Need-returns
 returns c =
-    let t = c .before .before .before .before .before .before .before .before .before in
+    let t = c .before .before .before .before .before .before in
     let x = t .before .before .before .before .args in
-    let r = c .before .before .before .before .before .before .at-once .result in
-    answered-by (c .give .ensures ∙ ap (λ (k : Worker). asked (r .number) (r .value) k) (c .before .with-heads .ensures))
-    ∙ ask-is (x .on) (asker (x .k) (lent (x .n) (x .bw) (x .page .now) (x .bits .now))) (x .code) (x .a) (x .b) (by (t .before .is-ready .ensures) (t .if1 .taken)) refl
-    (c .before .before .before .before .before .before .at-once .ensures)
+    answered-by (c .give .ensures) ∙ ask-is (x .on) (asker (x .k) (lent (x .n) (x .bw) (x .page .now) (x .bits .now))) (x .code) (x .a) (x .b) (by (t .before .is-staged .ensures) (t .if1 .taken)) (c .before .before .before .before .start .ensures) refl
 
-begin-requires : tie.Need-begin-requires
-begin-requires c κs = search needs
+ask-lists-requires : tie.Need-ask-lists-requires
+ask-lists-requires c κs = search needs
+
+with-heads-requires : tie.Need-with-heads-requires
+with-heads-requires c κs = search needs
 
 give-requires-2 : tie.Need-give-requires-2
 give-requires-2 c κs = search needs
+
+same-length-2 : tie.Need-same-length-2
+same-length-2 c = search needs
 
 same-length-3 : tie.Need-same-length-3
 same-length-3 c = search needs
 
 returns-2 : tie.Need-returns-2
 returns-2 c =
-    let e = c .before .before .before .before .before .before in
+    let e = c .before .before .before .before .before .before .before .before .before in
     let x = e .before .before .before .before .args in
-    answered-by (c .give2 .ensures)
-    ∙ ask-is (x .on) (asker (x .k) (lent (x .n) (x .bw) (x .page .now) (x .bits .now))) (x .code) (x .a) (x .b) (by (e .before .is-ready .ensures) (e .if1 .left))
-    (c .before .before .before .before .begin .ensures) refl
+    let r = c .before .before .before .before .before .before .ask-lists in
+    answered-by (c .give2 .ensures ∙ ap (λ (k : Worker). asked (r .result .number) (r .result .value) k) (c .before .with-heads .ensures))
+    ∙ ask-is (x .on) (asker (x .k) (lent (x .n) (x .bw) (x .page .now) (x .bits .now))) (x .code) (x .a) (x .b) (by (e .before .is-staged .ensures) (e .if1 .left)) refl (r .ensures)
 
 pub ask-spec : {M : Type 1} → statement M
 ask-spec =
     tie.close
     (tie.spec
-    is-ready-requires
-    at-once-requires
-    with-heads-requires
+    is-staged-requires
+    start-requires
     give-requires
     same-length
-    same-length-2
     returns
-    begin-requires
+    ask-lists-requires
+    with-heads-requires
     give-requires-2
+    same-length-2
     same-length-3
     returns-2)

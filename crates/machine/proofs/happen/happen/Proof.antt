@@ -59,8 +59,8 @@ returns-3 c =
     ∙ happen-is (ltb (x .e .worker) (x .workers)) (x .any) (turn (x .k) (x .shared) (x .tagged) (x .on) (lent (x .n) (x .bw) (x .page .now) (x .bits .now))) (x .e)
     (by-not (e .before .by-worker .ensures) (e .if1 .left)) (lt-ltb _ _ (d .if2 .left)) (eq-eqb _ _ (t .if3 .taken)) refl (c .before .before .before .before .make .ensures) refl
 
-begin-requires : tie.Need-begin-requires
-begin-requires c κs = search needs
+start-requires : tie.Need-start-requires
+start-requires c κs = search needs
 
 give-requires-4 : tie.Need-give-requires-4
 give-requires-4 c κs = search needs
@@ -76,7 +76,7 @@ returns-4 c =
     let x = e .before .before .before .before .args in
     happened-by (c .give4 .ensures)
     ∙ happen-is (ltb (x .e .worker) (x .workers)) (x .any) (turn (x .k) (x .shared) (x .tagged) (x .on) (lent (x .n) (x .bw) (x .page .now) (x .bits .now))) (x .e)
-    (by-not (e .before .by-worker .ensures) (e .if1 .left)) (lt-ltb _ _ (d .if2 .left)) (ne-eqb _ _ (t .if3 .left)) refl refl (c .before .before .before .before .begin .ensures)
+    (by-not (e .before .by-worker .ensures) (e .if1 .left)) (lt-ltb _ _ (d .if2 .left)) (ne-eqb _ _ (t .if3 .left)) refl refl (c .before .before .before .before .start .ensures)
 
 pub happen-spec : {M : Type 1} → statement M
 happen-spec =
@@ -93,7 +93,7 @@ happen-spec =
     same-length
     same-length-2
     returns-3
-    begin-requires
+    start-requires
     give-requires-4
     same-length-3
     returns-4)
