@@ -1,0 +1,4 @@
+pub mod Writing
+pub mod Decimal
+pub mod Performing
+pub mod Example
