@@ -2,7 +2,7 @@
 
 use albmerik::ffi::{self, Numbers, State, STATE_WORDS};
 
-use crate::mixes::{BW, N, W};
+use crate::mixes::{BW, N, ROUND, W};
 use crate::ordinary::Machine;
 
 #[derive(Clone, Copy, Debug, PartialEq)]
@@ -34,8 +34,28 @@ impl Run {
         Run { engine, machine: Machine::fresh(N, BW, W), state, page, bits, answers: vec![0; 2 * count] }
     }
 
-    /// Some of the events, whose answers begin at this event's place.
-    pub fn part(&mut self, events: &[u64], first: usize) {
+    /// Some of the events, whose answers begin at this event's place; in rounds where own is handed to got after each.
+    pub fn part(&mut self, events: &[u64], first: usize, hands_over: bool) {
+        if !hands_over {
+            return self.round(events, first);
+        }
+        for (place, round) in events.chunks(5 * ROUND).enumerate() {
+            self.round(round, first + place * ROUND);
+            self.hand_over();
+        }
+    }
+
+    /// Where got is empty, own becomes got. The state's words are the host's own.
+    fn hand_over(&mut self) {
+        if self.engine == Engine::Ordinary {
+            return self.machine.hand_over();
+        }
+        for record in self.state[6..].chunks_exact_mut(8).filter(|record| record[1] == 0) {
+            record.swap(0, 1);
+        }
+    }
+
+    fn round(&mut self, events: &[u64], first: usize) {
         let Run { engine, machine, state, page, bits, answers } = self;
         let answers = &mut answers[2 * first..];
         let whole = match engine {

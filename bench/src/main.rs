@@ -9,12 +9,12 @@ use std::process::exit;
 use std::time::Instant;
 
 use engines::{Engine, Run, ENGINES};
-use mixes::{mix, MIXES};
+use mixes::{hands_over, mix, MIXES};
 
 const HELP: &str = "bench times [REPEATS [PART]]  ns an event for each mix: ordinary, events, calls (best of REPEATS, 15; timed in parts of
                             PART events, the whole run unless given)
 bench growth [REPEATS]      ns for one insert, pop, append and release on n = 63, 255, 1023, 4095
-bench once ENGINE MIX       100,000 events of a mix (0 to 4) on one engine (0 ordinary, 1 events, 2 calls), for callgrind
+bench once ENGINE MIX       100,000 events of a mix (0 to 5) on one engine (0 ordinary, 1 events, 2 calls), for callgrind
 bench mixes                 the mixes' names
 
 Lines of numbers with tabs between them; bench/run makes a table of them.";
@@ -37,7 +37,7 @@ fn times(kind: usize, repeats: usize, part: usize) -> [f64; 3] {
         for (place, events) in events.chunks(5 * part).enumerate() {
             for (run, best) in runs.iter_mut().zip(&mut best) {
                 let start = Instant::now();
-                run.part(events, place * part);
+                run.part(events, place * part, hands_over(kind));
                 best[place] = best[place].min(start.elapsed().as_secs_f64());
             }
         }
@@ -54,7 +54,7 @@ fn times(kind: usize, repeats: usize, part: usize) -> [f64; 3] {
 fn once(engine: Engine, kind: usize) {
     let events = mix(kind, COUNTED);
     let mut run = Run::fresh(engine, COUNTED);
-    run.part(&events, 0);
+    run.part(&events, 0, hands_over(kind));
     println!("{}", run.answers.iter().sum::<u64>());
 }
 

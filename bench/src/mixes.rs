@@ -4,8 +4,18 @@ pub const N: u64 = 4095;
 pub const BW: u64 = 8;
 pub const W: u64 = 8;
 
-/// The mixes' names.
-pub const MIXES: [&str; 5] = ["predictable", "random", "append, extend", "append, extend, random", "refusals"];
+/// The mixes' names. The last two stand beside the limit: refusals alone, and pushes and takes with their moves, for which
+/// ordinary Rust knows S alone.
+pub const MIXES: [&str; 6] =
+    ["predictable", "random", "append, extend", "append, extend, random", "refusals", "pushes, takes"];
+
+/// Events of a round. After each round of a mix with appends, own becomes got where got is empty.
+pub const ROUND: usize = 336;
+
+/// Whether own is handed to got after each round, so that there is something to append.
+pub fn hands_over(kind: usize) -> bool {
+    kind == 2 || kind == 3
+}
 
 /// Random numbers that are the same each time (xorshift).
 struct Random(u64);
@@ -37,7 +47,8 @@ pub fn mix(kind: usize, count: usize) -> Vec<u64> {
             1 => mix.random(),
             2 => mix.lists_in_turn(),
             3 => mix.lists_at_random(),
-            _ => mix.refusals(),
+            4 => mix.refusals(),
+            _ => mix.pushes(),
         }
     }
     mix.events.truncate(5 * count);
@@ -88,22 +99,19 @@ impl Mix {
         }
     }
 
-    /// Extends by 16, inserts, lists of eight pushed, taken and appended, then pops until all are empty, in turn.
+    /// A round: what was handed over is appended, pops until all are empty, extends by 16, inserts, in turn.
     fn lists_in_turn(&mut self) {
+        for worker in 0..W {
+            self.request(worker, 3, 0, 0);
+        }
+        for step in 0..256 {
+            self.request(step % W, 2, 0, 0);
+        }
         for step in 0..W {
             self.request(step, 4, 1 + step * 16, 16);
         }
         for step in 0..64 {
             self.request(step % W, 1, 200 + step * 7, 0);
-        }
-        for worker in 0..W {
-            for step in 0..8 {
-                self.push((worker + step) % W, 1000 + 64 * worker + 3 * step);
-            }
-            self.take_and_append(worker);
-        }
-        for step in 0..256 {
-            self.request(step % W, 2, 0, 0);
         }
     }
 
@@ -116,10 +124,22 @@ impl Mix {
                 let count = 1 + self.random.below(8);
                 self.request(worker, 4, block, count);
             }
-            1 => self.push(worker, block),
-            2 if self.random.below(2) == 0 => self.take_and_append(worker),
-            3..=6 => self.request(worker, 1, block, 0),
+            1 => self.request(worker, 3, 0, 0),
+            2..=5 => self.request(worker, 1, block, 0),
             _ => self.request(worker, 2, 0, 0),
+        }
+    }
+
+    /// Lists of eight pushed on S, taken and appended, then popped.
+    fn pushes(&mut self) {
+        for worker in 0..W {
+            for step in 0..8 {
+                self.push((worker + step) % W, 1000 + 64 * worker + 3 * step);
+            }
+            self.take_and_append(worker);
+            for _ in 0..8 {
+                self.request(worker, 2, 0, 0);
+            }
         }
     }
 

@@ -1,6 +1,7 @@
 //! The same lists in ordinary safe Rust: the same page, bitmap, tests and answers, the state by `&mut`.
 //!
-//! Requests 1 to 4, and 6 and 7 with their moves, so that there is something to append. Other codes are not in the mixes.
+//! Requests 1 to 4, and 6 and 7 with their moves: S alone, without the tests that T's word asks for. Other codes are not in
+//! the mixes.
 
 use albmerik::ffi::Numbers;
 
@@ -50,6 +51,13 @@ fn clear_bit(bits: &mut [u64], block: u64) {
 impl Machine {
     pub fn fresh(n: u64, bw: u64, w: u64) -> Machine {
         Machine { n, bw, w, shared: 0, workers: [Worker::default(); 8] }
+    }
+
+    /// Where got is empty, own becomes got.
+    pub fn hand_over(&mut self) {
+        for worker in self.workers.iter_mut().filter(|worker| worker.got == 0) {
+            std::mem::swap(&mut worker.own, &mut worker.got);
+        }
     }
 
     fn page_rules_hold(&self, page: &[u64], bits: &[u64]) -> bool {
