@@ -1,17 +1,17 @@
 -- A worker's part of a request by the outcomes of its tests: the laws that every return of `ask` cites. Assumes nothing.
-use Prim.Native.Nat.{ℕ}
-use mathlib.Core.Path.{_≡_, sym, ap}
+use Prim.Native.Nat.{ℕ, _≤_, _<_}
+use mathlib.Core.Path.{_≡_, refl, sym, ap}
 use mathlib.Core.Bool.{Bool, true, false, not, _&&_, _||_, cond}
 use mathlib.Core.List.{List}
-use lib.Dec.{eqb}
-use borrow.Author.Tests.{ne-eqb}
+use lib.Dec.{leb, eqb}
+use borrow.Author.Tests.{le-leb, lt-leb, ne-eqb}
 use Rattle.answers.specs.Numbers.{noSuch, busy}
 use Rattle.answers.specs.Rows.{Outcome, refused}
 use Rattle.page.specs.Page.{blockB, runB}
 use Rattle.lists.specs.declared.Heads.{Heads}
 use Rattle.lists.specs.Lists.{Lists, came}
 use Rattle.lists.specs.Own.{emptyOf}
-use Rattle.staged.specs.Operations.{stagedB, busyB}
+use Rattle.staged.specs.Operations.{pushShared, awaitTag, stagedB, busyB}
 use Rattle.staged.specs.Start.{Starter, startFitsB, startOf}
 use Rattle.machine.specs.declared.ask.Asked.{Asked}
 use Rattle.machine.specs.Table.{insert, pop, append, extend, release, askEmpty, argumentsFitB}
@@ -51,6 +51,23 @@ module _ (l : Lists) (code a b : ℕ) where
   once-rest i p q e r = simp (ne-eqb _ _ i, ne-eqb _ _ p, ne-eqb _ _ q, ne-eqb _ _ e, ne-eqb _ _ r)
 
 -- ---- any request
+
+-- by the bounds of its code
+pub is-staged : (code : ℕ) → pushShared ≤ code → code ≤ awaitTag → stagedB code ≡ true
+unfolding stagedB
+is-staged code p q = simp (le-leb _ _ p, le-leb _ _ q)
+
+pub below-staged : (code : ℕ) → code < pushShared → stagedB code ≡ false
+unfolding stagedB
+below-staged code p = simp (lt-leb _ _ p)
+
+pub above-staged : (code : ℕ) → awaitTag < code → stagedB code ≡ false
+unfolding stagedB
+above-staged code p = go (leb pushShared code)
+  where
+    go : (v : Bool) → (v && leb code awaitTag) ≡ false
+    go true = lt-leb _ _ p
+    go false = refl
 
 -- what came, by the record given back
 pub answered-by : {n bw : ℕ} {r s : Asked} {page bits : List ℕ} → r ≡ s → answered n bw r page bits ≡ answered n bw s page bits

@@ -18,6 +18,8 @@ use lists::prepend_contiguous_blocks;
 use page::is_block;
 use page::is_run;
 use staged::Worker;
+use staged::operations::AWAIT_TAG;
+use staged::operations::PUSH_SHARED;
 use staged::operations::is_busy;
 use staged::operations::is_staged;
 use staged::start::start;
@@ -152,11 +154,15 @@ pub fn ask(
 ) -> Asked
     ensures { λ r. ⌜ answered n bw r (now (page .exit)) (now (bits .exit)) ≡ askOf on (asker k (lent n bw (now (page .entry)) (now (bits .entry)))) code a b ⌝ }
 {
-    if is_staged(code) {
-        let r = start(k, n, on, bits, code, a);
-        let worker = r.worker;
-        return give(r.number, r.value, worker);
+    match code {
+        PUSH_SHARED..=AWAIT_TAG => {
+            let r = start(k, n, on, bits, code, a);
+            let worker = r.worker;
+            give(r.number, r.value, worker)
+        }
+        _ => {
+            let r = ask_lists(k, n, bw, page, bits, code, a, b);
+            give(r.number, r.value, with_heads(k, r.own, r.got))
+        }
     }
-    let r = ask_lists(k, n, bw, page, bits, code, a, b);
-    give(r.number, r.value, with_heads(k, r.own, r.got))
 }

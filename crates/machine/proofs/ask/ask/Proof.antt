@@ -1,31 +1,20 @@
 -- `machine::ask::ask` meets its contract. Assumes nothing.
 use mathlib.Core.Path.{refl, ap, _∙_}
-use Rattle.answers.proofs.Rows.{by}
+use mathlib.Core.Logic.{⊎-elim}
+use native.Mathlib.Omega.{arith}
 use Rattle.page.specs.Page.{lent}
 use Rattle.staged.specs.declared.Worker.{Worker}
 use Rattle.machine.specs.Parts.{asked, asker}
-use Rattle.machine.proofs.AskArms.{answered-by, ask-is}
+use Rattle.machine.proofs.AskArms.{answered-by, is-staged, below-staged, above-staged, ask-is}
 use borrow.Author.Needs.{needs}
 use Rattle.machine.proofs.ask.ask.Statement.{statement}
 use Rattle.machine.proofs.ask.ask.Tie as tie
-
-is-staged-requires : tie.Need-is-staged-requires
-is-staged-requires c κs = search needs
 
 start-requires : tie.Need-start-requires
 start-requires c κs = search needs
 
 give-requires : tie.Need-give-requires
 give-requires c κs = search needs
-
-same-length : tie.Need-same-length
-same-length c = search needs
-
-returns : tie.Need-returns
-returns c =
-    let t = c .before .before .before .before .before .before in
-    let x = t .before .before .before .before .args in
-    answered-by (c .give .ensures) ∙ ask-is (x .on) (asker (x .k) (lent (x .n) (x .bw) (x .page .now) (x .bits .now))) (x .code) (x .a) (x .b) (by (t .before .is-staged .ensures) (t .if1 .taken)) (c .before .before .before .before .start .ensures) refl
 
 ask-lists-requires : tie.Need-ask-lists-requires
 ask-lists-requires c κs = search needs
@@ -36,6 +25,15 @@ with-heads-requires c κs = search needs
 give-requires-2 : tie.Need-give-requires-2
 give-requires-2 c κs = search needs
 
+same-length : tie.Need-same-length
+same-length c = search needs
+
+returns : tie.Need-returns
+returns c =
+    let t = c .before .before .before .before .before .before in
+    let x = t .before .before .before .before .args in
+    answered-by (c .give .ensures) ∙ ask-is (x .on) (asker (x .k) (lent (x .n) (x .bw) (x .page .now) (x .bits .now))) (x .code) (x .a) (x .b) (is-staged (x .code) (t .before .if1 .left) (omega (arith, t .if2 .taken))) (c .before .before .before .before .start .ensures) refl
+
 same-length-2 : tie.Need-same-length-2
 same-length-2 c = search needs
 
@@ -45,23 +43,22 @@ same-length-3 c = search needs
 returns-2 : tie.Need-returns-2
 returns-2 c =
     let e = c .before .before .before .before .before .before .before .before .before in
-    let x = e .before .before .before .before .args in
+    let x = e .before .before .before .args in
     let r = c .before .before .before .before .before .before .ask-lists in
     answered-by (c .give2 .ensures ∙ ap (λ (k : Worker). asked (r .result .number) (r .result .value) k) (c .before .with-heads .ensures))
-    ∙ ask-is (x .on) (asker (x .k) (lent (x .n) (x .bw) (x .page .now) (x .bits .now))) (x .code) (x .a) (x .b) (by (e .before .is-staged .ensures) (e .if1 .left)) refl (r .ensures)
+    ∙ ask-is (x .on) (asker (x .k) (lent (x .n) (x .bw) (x .page .now) (x .bits .now))) (x .code) (x .a) (x .b) (⊎-elim (λ w. below-staged (x .code) (w .taken)) (λ w. above-staged (x .code) (w .1 .left)) (e .if1 .came)) refl (r .ensures)
 
 pub ask-spec : {M : Type 1} → statement M
 ask-spec =
     tie.close
     (tie.spec
-    is-staged-requires
     start-requires
     give-requires
-    same-length
-    returns
     ask-lists-requires
     with-heads-requires
     give-requires-2
+    same-length
+    returns
     same-length-2
     same-length-3
     returns-2)
