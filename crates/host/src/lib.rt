@@ -104,16 +104,10 @@ pub extern "C" fn albmerik_request(
 {
     let event = [A_REQUEST, worker, code, a, b];
     let mut answer = [BAD_PAGE, 0];
-    let ran = run(state, page, bits, &event, &mut answer);
-    let after = ran.state;
-    finish(
-        state,
-        Reply {
-            number: answer[0],
-            value: answer[1],
-            state: after,
-        },
-    )
+    let mut reply = run(state, page, bits, &event, &mut answer);
+    reply.number = answer[0];
+    reply.value = answer[1];
+    finish(state, reply)
 }
 
 // A move of a worker; any flag but 0 is set.

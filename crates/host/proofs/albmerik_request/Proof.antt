@@ -14,11 +14,11 @@ slice-aggregate-run-2 c = search needs
 run-requires : tie.Need-run-requires
 run-requires c κs = search needs
 
-array-read-t24 : tie.Need-array-read-t24
-array-read-t24 c = search needs
+array-read-reply : tie.Need-array-read-reply
+array-read-reply c = search needs
 
-array-read-t27 : tie.Need-array-read-t27
-array-read-t27 c = search needs
+array-read-reply-2 : tie.Need-array-read-reply-2
+array-read-reply-2 c = search needs
 
 finish-requires : tie.Need-finish-requires
 finish-requires c κs = search needs
@@ -31,8 +31,8 @@ same-length-2 c = search needs
 
 returns : tie.Need-returns
 returns c =
-    let x = c .before .before .before .before .before .before .before .before .before .before .before .before .before .before .before .before .args in
-    ended-request (x .state .now) (c .finish .result) (c .before .before .before .before .before .before .before .before .run .result) (holding (x .state .now) (x .page .now) (x .bits .now)) (x .worker) (x .code) (x .a) (x .b) (c .finish .ensures) (c .before .before .before .before .before .before .before .before .run .ensures)
+    let x = c .before .before .before .before .before .before .before .before .before .before .before .before .before .before .before .args in
+    ended-request (x .state .now) (c .finish .result) (c .before .before .before .before .before .before .before .run .result) (holding (x .state .now) (x .page .now) (x .bits .now)) (x .worker) (x .code) (x .a) (x .b) (c .finish .ensures) (c .before .before .before .before .before .before .before .run .ensures)
 
 pub albmerik-request-spec : {M : Type 1} → statement M
 albmerik-request-spec =
@@ -41,8 +41,8 @@ albmerik-request-spec =
     slice-aggregate-run
     slice-aggregate-run-2
     run-requires
-    array-read-t24
-    array-read-t27
+    array-read-reply
+    array-read-reply-2
     finish-requires
     same-length
     same-length-2

@@ -1,13 +1,13 @@
 -- `host::spelling::store` meets its contract. The loop's invariant: the records before i are written behind the first six
 -- words. The measure is how many records are left. Assumes nothing.
-use Prim.Native.Nat.{_+_, _-_, _≤_}
-use mathlib.Core.Path.{_≡_, refl, sym, ap, _∙_}
+use Prim.Native.Nat.{_-_, _≤_}
+use mathlib.Core.Path.{_≡_, refl, sym, _∙_}
 use borrow.Author.Needs.{needs}
 use native.Mathlib.Omega.{arith}
 use lib.ListN.{length, length-map, length-set, take}
 use lib.Seq.{sets}
 use Rattle.page.specs.Limits.{maxWorkers}
-use Rattle.host.specs.Spelling.{stateWords, joined, wordsOf}
+use Rattle.host.specs.Spelling.{stateWords, joined}
 use Rattle.host.proofs.Spelled.{put-more, stored-is}
 use Rattle.host.proofs.spelling.store.Statement.{statement}
 use Rattle.host.proofs.spelling.store.Tie as tie
