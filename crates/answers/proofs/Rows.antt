@@ -1,14 +1,13 @@
 -- Laws of rows: which number a table gives, and what a refusal leaves. Assumes nothing.
-use Prim.Native.Nat.{ℕ, zero, suc, _≤_, _<_}
+use Prim.Native.Nat.{ℕ, zero, suc}
 use mathlib.Core.Path.{_≡_, refl, sym, ap, _∙_}
 use mathlib.Core.Logic.{_≢_}
 use mathlib.Core.Bool.{Bool, true, false, not, _&&_, cond, true≢false}
 use mathlib.Core.List.{List, [], _∷_}
-use native.Mathlib.Omega.{arith}
 use lib.Dec.{eqb}
 use lib.ListN.{getD}
-use borrow.Author.Tests.{eqb-true, eqb-false, eq-eqb, ne-eqb}
-use Rattle.answers.specs.Rows.{all, Row, row, first, Outcome, outcome, refused, unless}
+use borrow.Author.Tests.{eqb-true, eq-eqb, ne-eqb}
+use Rattle.answers.specs.Rows.{all, Row, row, first, Outcome, refused, unless}
 
 -- a test whose truth is absurd is false
 pub refuted : (b : Bool) → (b ≡ true → ⊥) → b ≡ false

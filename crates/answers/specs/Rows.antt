@@ -1,10 +1,10 @@
 -- Refusals as rows of a table, the smallest first, and what comes of a call: a number, a value and what stands afterwards
 -- (document 01, Numbers given back).
 use Prim.Native.Nat.{ℕ}
-use mathlib.Core.Bool.{Bool, true, false, _&&_, cond}
+use mathlib.Core.Bool.{Bool, true, _&&_, cond}
 use mathlib.Core.List.{List, [], _∷_}
 use lib.Dec.{eqb}
-use Rattle.answers.specs.Numbers.{done, underWay}
+use Rattle.answers.specs.Numbers.{done}
 use Rattle.answers.specs.declared.Answer.{Answer}
 
 -- every test of the list holds

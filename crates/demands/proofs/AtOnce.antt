@@ -1,34 +1,33 @@
 -- Requests 1 to 5 and 13: the real machine's change of a worker's lists is the simple machine's. Assumes nothing.
-use Prim.Native.Nat.{ℕ, zero, suc, _+_, _≤_, _<_}
-use mathlib.Core.Path.{_≡_, refl, sym, ap, ap₂, _∙_, subst}
-use mathlib.Core.Logic.{_≢_, _⊎_, inl, inr}
-use mathlib.Core.Bool.{Bool, true, false, not, _&&_, _||_, true≢false}
+use Prim.Native.Nat.{ℕ, _+_, _≤_, _<_}
+use mathlib.Core.Path.{_≡_, refl, ap, _∙_, subst}
+use mathlib.Core.Logic.{_≢_}
+use mathlib.Core.Bool.{Bool, true, false}
 use mathlib.Core.List.{List, [], _∷_, _++_}
 use native.Mathlib.Omega.{arith}
-use lib.Dec.{eqb, ltb, leb}
-use lib.ListN.{length, getD, set, length-set}
-use lib.Seq.{set-getD}
-use borrow.Author.Tests.{eqb-true, eqb-false, eq-eqb, ne-eqb, not-false, ltb-true}
-use Rattle.answers.specs.Rows.{Outcome, outcome}
+use lib.Dec.{eqb}
+use lib.ListN.{length, length-set}
+use borrow.Author.Tests.{eq-eqb, ne-eqb}
+use Rattle.answers.specs.Rows.{Outcome}
 use Rattle.words.specs.Tagged.{addressOf}
 use Rattle.bitmap.specs.Bitmap.{bitAt}
 use Rattle.bitmap.proofs.Bits.{put-length}
-use Rattle.page.specs.Page.{Lent, lent, Rules, blockOf}
-use Rattle.page.specs.Sequences.{one, times, Each, Apart, Once, upFrom, Listed, Runs, Stays, OthersStay, OthersRun}
-use Rattle.page.proofs.Counting.{hit-same, times-append}
+use Rattle.page.specs.Page.{Lent, lent, blockOf}
+use Rattle.page.specs.Sequences.{times, Apart, Once, upFrom, Runs, OthersStay}
+use Rattle.page.proofs.Counting.{times-append}
 use Rattle.page.proofs.Running.{others-run, run-front, run-some, run-none}
 use Rattle.lists.specs.Lists.{Lists}
-use Rattle.lists.specs.Own.{insertAct, popAct, appendAct, extendAct, releaseAct, emptyAct}
-use Rattle.lists.specs.Exact.{Inserted, Popped, Appended, Extended, Released}
+use Rattle.lists.specs.Own.{insertAct, popAct, appendAct, extendAct, releaseAct}
+use Rattle.lists.specs.Exact.{Appended}
 use Rattle.lists.proofs.Sequences.{inserted, popped, appended, extended, released}
-use Rattle.lists.proofs.Kept.{inserted-keeps, appended-keeps, extended-keeps}
+use Rattle.lists.proofs.Kept.{inserted-keeps, extended-keeps}
 use Rattle.lists.proofs.Walks.{clear-length}
 use Rattle.staged.specs.declared.Worker.{Worker}
 use Rattle.machine.specs.Config.{Config, config, lentOf, workerOf, listsOf, putWorker, putLists, withHeads}
 use Rattle.demands.specs.Simple.{Simple, Hands, hands, handsOf, putHands, heldBy, timesIn}
-use Rattle.demands.specs.Relation.{Doing, resting, pushingShared, pushingTagged, takingShared, takingTagged, setting, asking, awaiting, Fits, Sim}
+use Rattle.demands.specs.Relation.{Doing, resting, pushingShared, pushingTagged, takingShared, takingTagged, setting, asking, awaiting, Sim}
 use Rattle.demands.proofs.Facts.{one-place, held-part, held-two, free-clear}
-use Rattle.demands.proofs.Change.{Next, Change, rebuild, fits-stays}
+use Rattle.demands.proofs.Change.{rebuild, fits-stays}
 
 -- an idle worker rests, whatever its heads and sequences
 rest-anew : (c d : Lent) (on : Bool) (k : Worker) (t : Hands) (own got : ℕ) (xs ys : List ℕ) → k .operation ≡ 0 → Doing c on k t

@@ -1,25 +1,25 @@
 -- One worker's change: what is to be shown, and the relation rebuilt from it. Assumes nothing.
 use Prim.Native.Nat.{ℕ, zero, suc, _+_, _≤_, _<_}
-use mathlib.Core.Path.{_≡_, refl, sym, ap, _∙_, subst}
-use mathlib.Core.Logic.{_≢_, _⊎_, inl, inr}
+use mathlib.Core.Path.{_≡_, refl, _∙_, subst}
+use mathlib.Core.Logic.{_≢_, inl, inr}
 use mathlib.Core.Bool.{Bool, true, false}
 use mathlib.Core.List.{List, [], _∷_}
 use native.Mathlib.Omega.{arith}
 use lib.Dec.{eqb}
 use borrow.Author.Tests.{eqb-true, eqb-false}
 use lib.ListN.{length, getD, set, length-set}
-use lib.Seq.{getD-set-same, getD-set-other, set-getD}
+use lib.Seq.{getD-set-same, getD-set-other}
 use Rattle.words.specs.Tagged.{tagOf, addressOf}
 use Rattle.bitmap.specs.Bitmap.{bitAt}
-use Rattle.page.specs.Page.{Lent, lent, Rules, place}
-use Rattle.page.specs.Sequences.{times, Each, Apart, Listed, Runs, Stays, OthersStay, OthersRun}
+use Rattle.page.specs.Page.{Lent, lent}
+use Rattle.page.specs.Sequences.{times, Each, Apart, Listed, Runs, OthersStay}
 use Rattle.page.proofs.Counting.{hit-same, each-cons}
 use Rattle.page.proofs.Running.{others-run}
 use Rattle.staged.specs.declared.Worker.{Worker}
-use Rattle.machine.specs.Config.{Config, config, stateOf, lentOf, workerOf, blank}
-use Rattle.demands.specs.Simple.{Simple, simple, Hands, still, handsOf, heldBy, sumOver, timesIn}
+use Rattle.machine.specs.Config.{Config, config, stateOf, workerOf, blank}
+use Rattle.demands.specs.Simple.{Simple, simple, Hands, still, handsOf, heldBy, timesIn}
 use Rattle.demands.specs.Relation.{Seen, Pushing, loads, writes, exchanges, Doing, resting, pushingShared, pushingTagged, takingShared, takingTagged, setting, asking, awaiting, Fits, Sim}
-use Rattle.demands.proofs.Facts.{sum-set, held-part}
+use Rattle.demands.proofs.Facts.{sum-set}
 
 -- ---- where the other blocks stay, a worker without them fits as before
 

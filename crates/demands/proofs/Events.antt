@@ -1,35 +1,32 @@
 -- Every event is explained: the relation holds after it, and its answer is the simple machine's or none. Assumes nothing.
-use Prim.Native.Nat.{ℕ, zero, suc, _+_, _≤_, _<_}
-use mathlib.Core.Path.{_≡_, refl, sym, ap, _∙_, subst}
+use Prim.Native.Nat.{ℕ, _≤_, _<_}
+use mathlib.Core.Path.{_≡_, refl, sym, _∙_}
 use mathlib.Core.Logic.{_≢_}
-use mathlib.Core.Bool.{Bool, true, false, not, _||_, cond}
-use mathlib.Core.List.{List, [], _∷_}
+use mathlib.Core.Bool.{Bool, true, false}
+use mathlib.Core.List.{List, []}
 use native.Mathlib.Omega.{arith}
-use lib.Dec.{eqb, ltb, leb}
-use lib.ListN.{length, getD, set, length-set}
+use lib.Dec.{eqb, leb}
+use lib.ListN.{length, set, length-set}
 use lib.Seq.{getD-set-other}
-use borrow.Author.Tests.{eqb-true, eqb-false, eq-eqb, ne-eqb, leb-true, leb-false, le-leb, lt-leb, lt-ltb, le-ltb}
-use Rattle.answers.specs.Rows.{first, Outcome, outcome, unless}
+use borrow.Author.Tests.{eqb-true, eqb-false, ne-eqb, leb-true, leb-false, le-leb, lt-leb, lt-ltb, le-ltb}
+use Rattle.answers.specs.Rows.{first}
 use Rattle.words.specs.Tagged.{addressOf}
-use Rattle.page.specs.Page.{lent, Rules, place}
-use Rattle.page.specs.Sequences.{times, Listed, Runs, Stays, OthersStay}
-use Rattle.page.proofs.Rules.{place-apart}
+use Rattle.page.specs.Page.{lent, place}
+use Rattle.page.specs.Sequences.{Runs, OthersStay}
 use Rattle.page.proofs.Running.{others-run}
-use Rattle.staged.specs.Operations.{busyB}
 use Rattle.staged.specs.Moves.{moveAct}
 use Rattle.machine.specs.Config.{Config, config, lentOf, workerOf, turnOf, putTurn, over}
 use Rattle.machine.specs.Table.{moveRefusal}
 use Rattle.machine.specs.Moves.{moveOf}
-use Rattle.demands.specs.Simple.{Simple, Hands, handsOf, heldBy, timesIn}
+use Rattle.demands.specs.Simple.{Simple, handsOf, timesIn}
 use Rattle.demands.specs.Simple as simple
 use Rattle.demands.specs.Moments.{Event, request, move, on, off, store, step, simpleStep, Act, isMoment, actOf, moment, Allowed, follow}
-use Rattle.demands.specs.Relation.{Fits, Sim}
-use Rattle.demands.proofs.Facts.{used-listed, held-part}
+use Rattle.demands.specs.Relation.{Sim}
 use Rattle.demands.proofs.Change.{fits-stays}
 use Rattle.demands.proofs.Refusals.{rules-hold, note-is}
 use Rattle.demands.proofs.Requests.{Explained, request-explained}
 use Rattle.demands.proofs.Undamaged.{undamaged}
-use Rattle.demands.proofs.Moves.{Unmoved, By, turn-explained}
+use Rattle.demands.proofs.Moves.{By, turn-explained}
 use Rattle.demands.proofs.Switching.{on-explained, off-explained}
 
 module _ (c : Config) (s : Simple) (m : Sim c s) where

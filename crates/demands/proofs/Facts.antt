@@ -1,24 +1,22 @@
 -- What the relation gives: no block is in two places, every block in use is listed, no head is damaged. Assumes nothing.
-use Prim.Native.Nat.{ℕ, zero, suc, _+_, _-_, _*_, _/_, _%_, _≤_, _<_}
-use mathlib.Core.Path.{_≡_, refl, sym, ap, _∙_, subst}
-use mathlib.Core.Logic.{_≢_, _⊎_, inl, inr}
-use mathlib.Core.Bool.{Bool, true, false, not}
-use mathlib.Core.List.{List, [], _∷_, _++_}
+use Prim.Native.Nat.{ℕ, zero, suc, _+_, _≤_, _<_}
+use mathlib.Core.Path.{_≡_, refl, sym, ap, _∙_}
+use mathlib.Core.Logic.{_≢_}
+use mathlib.Core.Bool.{true}
+use mathlib.Core.List.{List, [], _∷_}
 use native.Mathlib.Omega.{arith}
 use native.Mathlib.Nat.{le-of-suc-le-suc, not-suc-le-zero}
-use lib.Dec.{eqb, ltb, leb}
 use lib.ListN.{length, getD, set}
-use Rattle.words.specs.Tagged.{tagOf, addressOf}
+use Rattle.words.specs.Tagged.{addressOf}
 use Rattle.bitmap.specs.Bitmap.{bitAt}
 use Rattle.bitmap.proofs.Bits.{bit-lt}
-use Rattle.page.specs.Page.{Lent, lent, Rules, place, soundIn}
+use Rattle.page.specs.Page.{soundIn}
 use Rattle.page.specs.Page as page
-use Rattle.page.specs.Sequences.{times, Each, Once, Apart, Listed, Runs, Stays, OthersStay, OthersRun}
-use Rattle.page.proofs.Counting.{hit-same, times-append}
-use Rattle.page.proofs.Running.{run-sound, run-zero}
+use Rattle.page.specs.Sequences.{times, Listed}
+use Rattle.page.proofs.Running.{run-sound}
 use Rattle.machine.specs.Config.{Config, lentOf, workerOf}
-use Rattle.demands.specs.Simple.{Simple, Hands, still, handsOf, heldBy, sumOver, timesIn, isNil, inUse}
-use Rattle.demands.specs.Relation.{Seen, Pushing, Doing, Fits, Sim}
+use Rattle.demands.specs.Simple.{Simple, Hands, still, handsOf, heldBy, sumOver, timesIn}
+use Rattle.demands.specs.Relation.{Sim}
 
 -- ---- sums over workers
 

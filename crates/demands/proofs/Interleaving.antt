@@ -1,9 +1,8 @@
 -- Demand 3, proved: by induction over the events, from any configuration that stands for a simple one. Assumes nothing.
-use Prim.Native.Nat.{ℕ, zero, suc, _+_, _/_, _%_, _^_, _≤_, _<_}
-use mathlib.Core.Path.{_≡_, refl, sym, ap, _∙_, subst}
-use mathlib.Core.Logic.{_≢_}
-use mathlib.Core.Bool.{Bool, true, false, not, _&&_, true≢false}
-use mathlib.Core.List.{List, [], _∷_}
+use Prim.Native.Nat.{ℕ, zero, suc, _/_, _%_, _^_, _≤_}
+use mathlib.Core.Path.{_≡_, refl, _∙_}
+use mathlib.Core.Bool.{Bool, true, false}
+use mathlib.Core.List.{[], _∷_}
 use native.Mathlib.Omega.{arith}
 use native.Mathlib.Nat.{zero-div}
 use lib.ListN.{length, getD, replicate, length-replicate}
@@ -14,11 +13,11 @@ use Rattle.page.specs.Limits.{maxWorkers}
 use Rattle.page.specs.Page.{lent, Rules, keepsRulesB, workersB}
 use Rattle.page.proofs.Rules.{rules-facts, workers-facts}
 use Rattle.page.proofs.Running.{run-none}
-use Rattle.machine.specs.Config.{Config, config, blank, rulesB, freshState, zeroed, freshOf}
-use Rattle.demands.specs.Simple.{Simple, still, start, heldBy, sumOver}
-use Rattle.demands.specs.Moments.{Event, step, isMoment, moment, Allowed, follow, AllAllowed, endOf, simpleEnd}
+use Rattle.machine.specs.Config.{config, blank, rulesB, freshState, zeroed, freshOf}
+use Rattle.demands.specs.Simple.{still, start, heldBy, sumOver}
+use Rattle.demands.specs.Moments.{step, isMoment, moment, follow}
 use Rattle.demands.specs.Relation.{resting, Sim}
-use Rattle.demands.specs.Every.{Said, begins, acts, counted, busyOne, Throughout, Refines, EveryInterleaving, FreshStands, FromFresh}
+use Rattle.demands.specs.Every.{EveryInterleaving, FreshStands, FromFresh}
 use Rattle.demands.proofs.Events.{event-sim}
 use Rattle.demands.proofs.Saying.{said}
 use Rattle.demands.proofs.Notes.{balance, same-w}

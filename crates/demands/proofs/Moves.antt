@@ -1,32 +1,32 @@
 -- Every move of a worker with an operation under way is explained, operation by operation and stage by stage. Assumes nothing.
-use Prim.Native.Nat.{ℕ, zero, suc, _+_, _-_, _*_, _%_, _≤_, _<_}
+use Prim.Native.Nat.{ℕ, _+_, _*_, _%_, _≤_, _<_}
 use mathlib.Core.Path.{_≡_, refl, sym, ap, _∙_, subst}
 use mathlib.Core.Logic.{_≢_, _⊎_, inl, inr}
-use mathlib.Core.Bool.{Bool, true, false, not, _&&_, _||_, cond, true≢false}
-use mathlib.Core.List.{List, [], _∷_, _++_}
+use mathlib.Core.Bool.{Bool, true, false, true≢false}
+use mathlib.Core.List.{List, [], _∷_}
 use native.Mathlib.Omega.{arith}
 use lib.Dec.{eqb, leb}
-use lib.ListN.{length, getD, set}
-use borrow.Author.Tests.{eqb-true, eqb-false, eq-eqb, ne-eqb, le-leb, lt-leb, leb-true, leb-false}
+use lib.ListN.{getD, set}
+use borrow.Author.Tests.{eqb-true, ne-eqb, leb-false}
 use native.Mathlib.Nat.{zero-div}
 use Rattle.answers.specs.Numbers.{underWay}
 use Rattle.answers.specs.Rows.{Outcome, outcome}
-use Rattle.words.specs.Tagged.{tagOf, addressOf, freeing, noDelayedFree}
+use Rattle.words.specs.Tagged.{tagOf, addressOf, noDelayedFree}
 use Rattle.words.proofs.Tagged.{join-address, join-tag, tag-small}
-use Rattle.page.specs.Page.{Lent, lent, Rules, place, blockOf}
+use Rattle.page.specs.Page.{Lent, Rules, place, blockOf}
 use Rattle.page.specs.Page as page
-use Rattle.page.specs.Sequences.{one, hit, times, Listed, Runs}
+use Rattle.page.specs.Sequences.{times, Listed, Runs}
 use Rattle.page.proofs.Rules.{address-even}
 use Rattle.page.proofs.Counting.{each-head}
 use Rattle.page.proofs.Running.{run-push, run-none, run-front, run-zero}
 use Rattle.staged.specs.declared.Worker.{Worker}
-use Rattle.staged.specs.Operations.{pushShared, takeShared, pushTagged, takeTagged, setTag, askTag, awaitTag, loading, writing, exchanging, swapping, masking, maxSightings, pushesB, onSharedB, wordOf, rested}
+use Rattle.staged.specs.Operations.{pushShared, takeShared, pushTagged, takeTagged, setTag, askTag, awaitTag, loading, exchanging, swapping, masking, maxSightings, pushesB, onSharedB, wordOf, rested}
 use Rattle.staged.specs.Damage.{turn}
 use Rattle.staged.specs.Moves.{loadAsk, loadAwait, loadAct, writeAct, failsB, newWord, exchangeValue, exchangeAct, swapAct, maskAct, moveAct}
 use Rattle.machine.specs.Config.{Config, lentOf, workerOf, turnOf, putTurn, over}
-use Rattle.demands.specs.Simple.{Simple, Hands, handsOf, heldBy, front, rests, holds}
+use Rattle.demands.specs.Simple.{Simple, Hands, handsOf, front, rests, holds}
 use Rattle.demands.specs.Simple as simple
-use Rattle.demands.specs.Moments.{Act, isMoment, endsAtLoad, actOf}
+use Rattle.demands.specs.Moments.{isMoment, endsAtLoad, actOf}
 use Rattle.demands.specs.Relation.{Seen, Pushing, loads, writes, exchanges, Doing, resting, pushingShared, pushingTagged, takingShared, takingTagged, setting, asking, awaiting, Fits, Sim}
 use Rattle.demands.proofs.Requests.{Explained}
 use Rattle.demands.proofs.Undamaged.{shared-even, shared-address}

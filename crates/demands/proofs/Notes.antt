@@ -1,20 +1,20 @@
 -- Operations begun and acted: each event keeps the balance of notes. Assumes nothing.
-use Prim.Native.Nat.{ℕ, zero, suc, _+_, _≤_, _<_}
+use Prim.Native.Nat.{ℕ, _+_, _≤_, _<_}
 use mathlib.Core.Path.{_≡_, refl, sym, ap, _∙_, subst}
 use mathlib.Core.Logic.{_≢_}
 use mathlib.Core.Bool.{Bool, true, false, not, _&&_, cond, true≢false}
 use mathlib.Core.List.{List, [], _∷_}
 use native.Mathlib.Nat.{zero-add}
 use native.Mathlib.Omega.{arith}
-use lib.Dec.{eqb, ltb, leb}
+use lib.Dec.{eqb, leb}
 use lib.ListN.{length, getD, set}
 use lib.Seq.{getD-set-same, getD-set-other}
-use borrow.Author.Tests.{eqb-true, eqb-false, eq-eqb, ne-eqb, not-false, ltb-true, lt-ltb, le-ltb, leb-true}
+use borrow.Author.Tests.{eqb-true, eqb-false, ne-eqb, not-false, ltb-true, lt-ltb, le-ltb, leb-true}
 use Rattle.answers.specs.Numbers.{done, underWay, busy, switched, notEmpty}
 use Rattle.answers.specs.Rows.{row, first, Outcome, outcome, unless}
 use Rattle.answers.proofs.Rows.{unless-either, and-left}
 use Rattle.page.specs.Sequences.{one}
-use Rattle.staged.specs.Operations.{pushShared, takeShared, pushTagged, takeTagged, setTag, askTag, awaitTag, stagedB, busyB}
+use Rattle.staged.specs.Operations.{pushShared, awaitTag, stagedB}
 use Rattle.staged.specs.Start.{startAct}
 use Rattle.staged.specs.Moves.{moveAct}
 use Rattle.machine.specs.Config.{Config, workerOf, turnOf, putTurn, over}
@@ -23,15 +23,15 @@ use Rattle.machine.specs.Requests.{requestAct, requestOf}
 use Rattle.machine.specs.Moves.{moveOf}
 use Rattle.machine.specs.Switch.{switchOnOf, switchOffOf}
 use Rattle.machine.proofs.Passing.{Passed, passed}
-use Rattle.demands.specs.Simple.{Simple, Hands, hands, still, handsOf, putHands, judged, overHands}
+use Rattle.demands.specs.Simple.{Simple, Hands, still, handsOf, putHands, judged, overHands}
 use Rattle.demands.specs.Simple as simple
-use Rattle.demands.specs.Moments.{Event, request, move, on, off, store, step, simpleStep, Act, called, isMoment, moment, actOf, Allowed, follow}
+use Rattle.demands.specs.Moments.{Event, request, move, on, off, store, step, simpleStep, called, isMoment, moment, actOf, Allowed, follow}
 use Rattle.demands.specs.Relation.{Sim}
 use Rattle.demands.specs.Every.{isAct, begins, acts, busyOne}
 use Rattle.demands.proofs.Refusals.{note-is}
 use Rattle.demands.proofs.Requests.{request-explained}
 use Rattle.demands.proofs.Events.{Mover, nobody, rests, works, mover, nobody-called, rests-called, works-acts, busy-moves, event-sim}
-use Rattle.demands.proofs.Saying.{own-done, act-done, table-not-one, moment-act}
+use Rattle.demands.proofs.Saying.{own-done, table-not-one, moment-act}
 
 -- a worker's note, counted
 abbrev noted : Simple → ℕ → ℕ

@@ -1,29 +1,25 @@
 -- Both machines refuse alike: the rows agree, one by one, as far as no row above applies. Assumes nothing.
 use Prim.Native.Nat.{ℕ, zero, suc, _+_, _≤_, _<_}
 use mathlib.Core.Path.{_≡_, refl, sym, ap, ap₂, _∙_, subst}
-use mathlib.Core.Logic.{_≢_, _⊎_, inl, inr}
 use mathlib.Core.Bool.{Bool, true, false, not, _&&_, _||_, true≢false}
-use mathlib.Core.List.{List, [], _∷_, _++_}
+use mathlib.Core.List.{List, [], _∷_}
 use native.Mathlib.Omega.{arith}
-use lib.Dec.{eqb, ltb, leb}
-use lib.ListN.{length, getD}
-use borrow.Author.Tests.{eqb-true, eqb-false, eq-eqb, ne-eqb, ltb-true, lt-ltb, le-ltb, not-false}
+use lib.Dec.{eqb, ltb}
+use borrow.Author.Tests.{eqb-true, eq-eqb, ne-eqb, ltb-true, lt-ltb, not-false}
 use Rattle.answers.specs.Numbers.{badPage, noWorker, noSuch, busy, switched, notEmpty, listed, noneLeft, damaged}
-use Rattle.answers.proofs.Rows.{Agree, none, then, first-agree}
+use Rattle.answers.proofs.Rows.{none, then, first-agree}
 use Rattle.bitmap.specs.Bitmap.{bitAt, anyFrom}
-use Rattle.bitmap.proofs.Bits.{bit-lt}
-use Rattle.page.specs.Page.{Lent, Rules, keepsRulesB, workersB, blockB, runB, listedB, linkAt, soundIn}
-use Rattle.page.specs.Walk.{Walk, walkOf}
+use Rattle.page.specs.Page.{listedB, linkAt, soundIn}
 use Rattle.page.specs.Sequences.{Runs}
 use Rattle.page.proofs.Rules.{rules-test, workers-test, block-facts, run-facts}
-use Rattle.page.proofs.Running.{run-sound, run-zero, run-some, run-rest, walk-is}
-use Rattle.staged.specs.Operations.{pushShared, takeShared, pushTagged, takeTagged, setTag, askTag, awaitTag, stagedB, pushesB, takesB, onTaggedB, busyB}
+use Rattle.page.proofs.Running.{run-sound, run-some, run-rest, walk-is}
+use Rattle.staged.specs.Operations.{pushShared, pushTagged, stagedB, pushesB, takesB, onTaggedB}
 use Rattle.staged.specs.Start.{startFitsB}
 use Rattle.machine.specs.Config.{Config, workerOf, rulesB}
 use Rattle.machine.specs.Config as machine
-use Rattle.machine.specs.Table.{insert, pop, append, extend, release, askEmpty, Tests, table, argumentsFitB, anyNamed, ownUnsound, linkUnsound, walkBroken, testsOf, requestRefusal}
-use Rattle.demands.specs.Simple.{Simple, Hands, handsOf, timesIn, inUse, isNil, judged}
-use Rattle.demands.specs.Relation.{Doing, resting, pushingShared, pushingTagged, takingShared, takingTagged, setting, asking, awaiting, Fits, Sim}
+use Rattle.machine.specs.Table.{insert, pop, append, extend, release, table, argumentsFitB, anyNamed, ownUnsound, linkUnsound, walkBroken, testsOf, requestRefusal}
+use Rattle.demands.specs.Simple.{Simple, handsOf, timesIn, inUse, isNil, judged}
+use Rattle.demands.specs.Relation.{Doing, resting, pushingShared, pushingTagged, takingShared, takingTagged, setting, asking, awaiting, Sim}
 use Rattle.demands.proofs.Facts.{one-place, own-sound}
 
 -- ---- tests

@@ -1,20 +1,20 @@
 -- Every request is explained: refused alike, done alike, begun alike. Assumes nothing.
-use Prim.Native.Nat.{ℕ, zero, suc, _+_, _-_, _≤_, _<_}
-use mathlib.Core.Path.{_≡_, refl, sym, ap, ap₂, _∙_, subst}
-use mathlib.Core.Logic.{_≢_, _⊎_, inl, inr}
-use mathlib.Core.Bool.{Bool, true, false, not, _&&_, _||_, cond, true≢false}
+use Prim.Native.Nat.{ℕ, _+_, _-_, _≤_, _<_}
+use mathlib.Core.Path.{_≡_, refl, sym, ap, _∙_, subst}
+use mathlib.Core.Logic.{_≢_}
+use mathlib.Core.Bool.{Bool, true, false, _&&_, _||_, cond, true≢false}
 use mathlib.Core.List.{List, [], _∷_, _++_}
 use native.Mathlib.Omega.{arith}
-use lib.Dec.{eqb, ltb, leb}
-use lib.ListN.{length, getD, set}
+use lib.Dec.{eqb, leb}
+use lib.ListN.{length}
 use lib.Seq.{set-getD}
 use borrow.Author.Tests.{eqb-true, eqb-false, not-false, ltb-true, ltb-false, leb-true}
 use Rattle.answers.specs.Rows.{Outcome, outcome, unless}
 use Rattle.answers.proofs.Rows.{and-left, and-right}
 use Rattle.bitmap.specs.Bitmap.{anyFrom}
 use Rattle.bitmap.proofs.Ranges.{from-none}
-use Rattle.page.specs.Page.{Lent, Rules}
-use Rattle.page.specs.Sequences.{one, times, Once, upFrom, Runs}
+use Rattle.page.specs.Page.{Lent}
+use Rattle.page.specs.Sequences.{one, Once, upFrom, Runs}
 use Rattle.page.proofs.Counting.{times-append}
 use Rattle.lists.specs.Own.{insertAct, popAct, appendAct, extendAct, releaseAct, emptyAct}
 use Rattle.lists.proofs.Sequences.{popped, appended, released}
@@ -22,12 +22,12 @@ use Rattle.staged.specs.declared.Worker.{Worker}
 use Rattle.staged.specs.Operations.{stagedB, pushesB, takesB, onTaggedB}
 use Rattle.staged.specs.Start.{startAct, startFitsB}
 use Rattle.machine.specs.Config.{Config, lentOf, workerOf, blank, listsOf, putLists, starterOf, putStarter, over}
-use Rattle.machine.specs.Table.{insert, pop, append, extend, release, table, argumentsFitB, anyNamed, testsOf, requestRefusal}
+use Rattle.machine.specs.Table.{insert, pop, append, extend, release, table, argumentsFitB, anyNamed}
 use Rattle.machine.specs.Requests.{atOnceAct, requestAct, requestOf}
 use Rattle.machine.proofs.Passing.{Passed, passed}
-use Rattle.demands.specs.Simple.{Simple, Hands, hands, handsOf, putHands, heldBy, timesIn, inUse, isNil, front, rest, still, judged, ownAct, overHands}
+use Rattle.demands.specs.Simple.{Simple, Hands, hands, handsOf, timesIn, inUse, isNil, front, rest, still, judged, ownAct, overHands}
 use Rattle.demands.specs.Simple as simple
-use Rattle.demands.specs.Relation.{Doing, resting, pushingShared, pushingTagged, takingShared, takingTagged, setting, asking, awaiting, Fits, Sim}
+use Rattle.demands.specs.Relation.{Doing, resting, pushingShared, pushingTagged, takingShared, takingTagged, setting, asking, awaiting, Sim}
 use Rattle.demands.proofs.Facts.{one-place, held-part}
 use Rattle.demands.proofs.Refusals.{named-block, named-run, refused-alike, note-is, empty-is}
 use Rattle.demands.proofs.AtOnce.{insert-sim, pop-sim, append-sim, extend-sim, release-sim}

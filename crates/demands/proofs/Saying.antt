@@ -1,18 +1,18 @@
 -- What is said of each event: its answer, that 11 is never given, that 0 is given exactly at a moment. Assumes nothing.
-use Prim.Native.Nat.{ℕ, zero, suc, _+_, _≤_, _<_}
-use mathlib.Core.Path.{_≡_, refl, sym, ap, _∙_, subst}
+use Prim.Native.Nat.{ℕ, _≤_, _<_}
+use mathlib.Core.Path.{_≡_, refl, sym, ap, _∙_}
 use mathlib.Core.Logic.{_≢_, _⊎_, inl, inr, _↔_}
-use mathlib.Core.Bool.{Bool, true, false, not, _&&_, _||_, cond, true≢false}
+use mathlib.Core.Bool.{Bool, true, false, not, cond, true≢false}
 use mathlib.Core.List.{List, [], _∷_}
 use native.Mathlib.Omega.{arith}
-use lib.Dec.{eqb, ltb, leb}
-use lib.ListN.{length, getD, List·getD-eq-default}
-use borrow.Author.Tests.{eqb-true, eqb-false, eq-eqb, ne-eqb}
-use Rattle.answers.specs.Numbers.{done, underWay, damaged, badPage, noWorker, noSuch, busy, idle, switched, notEmpty, listed, noneLeft}
-use Rattle.answers.specs.Rows.{Row, row, first, Outcome, outcome, unless}
-use Rattle.words.specs.Tagged.{freeing, noDelayedFree, useDelayedFree}
+use lib.Dec.{eqb}
+use lib.ListN.{length, List·getD-eq-default}
+use borrow.Author.Tests.{eqb-true, eqb-false}
+use Rattle.answers.specs.Numbers.{done, underWay, damaged}
+use Rattle.answers.specs.Rows.{Row, first, Outcome, unless}
+use Rattle.words.specs.Tagged.{freeing}
 use Rattle.page.specs.Sequences.{one}
-use Rattle.staged.specs.Operations.{pushShared, takeShared, pushTagged, takeTagged, setTag, askTag, stagedB, loading, exchanging, swapping, masking}
+use Rattle.staged.specs.Operations.{askTag, stagedB, loading, exchanging, swapping, masking}
 use Rattle.staged.specs.Damage.{Turn, headWord}
 use Rattle.staged.specs.Moves.{failsB}
 use Rattle.machine.specs.Config.{Config, workerOf, turnOf}
@@ -20,12 +20,12 @@ use Rattle.machine.specs.Table.{insert, pop, append, extend, release, Tests, ta
 use Rattle.machine.specs.Moves.{moveOf}
 use Rattle.demands.specs.Simple.{Simple, Hands, still, handsOf, judged, overHands}
 use Rattle.demands.specs.Simple as simple
-use Rattle.demands.specs.Moments.{Event, request, move, on, off, store, step, simpleStep, Act, called, exchanged, swapped, masked, loaded, none, isMoment, endsAtLoad, actOf, moment, Allowed}
+use Rattle.demands.specs.Moments.{Event, request, move, on, off, store, step, simpleStep, isMoment, endsAtLoad, actOf, moment, Allowed}
 use Rattle.demands.specs.Relation.{Sim}
-use Rattle.demands.specs.Every.{Alike, Quiet, Answers, isAct, DoneAtMoment, AskTells, Said}
+use Rattle.demands.specs.Every.{Alike, Answers, isAct, DoneAtMoment, AskTells, Said}
 use Rattle.demands.proofs.Refusals.{note-is}
 use Rattle.demands.proofs.Requests.{Explained, request-explained}
-use Rattle.demands.proofs.Moves.{By, Unmoved}
+use Rattle.demands.proofs.Moves.{By}
 use Rattle.demands.proofs.Switching.{on-explained, off-explained}
 use Rattle.demands.proofs.Events.{Mover, nobody, rests, works, mover, nobody-called, rests-called, works-acts, busy-moves, move-explained}
 

@@ -1,28 +1,28 @@
 -- What stands at any point of a run: one place for each block, bits that number the blocks, readers that agree. Assumes nothing.
 use Prim.Native.Nat.{ℕ, zero, suc, _+_, _≤_, _<_}
 use mathlib.Core.Path.{_≡_, refl, sym, ap, _∙_, subst}
-use mathlib.Core.Logic.{_≢_, _↔_}
-use mathlib.Core.Bool.{Bool, true, false, not, cond, true≢false}
+use mathlib.Core.Logic.{_↔_}
+use mathlib.Core.Bool.{Bool, true, false, cond}
 use mathlib.Core.List.{List, [], _∷_, _++_}
 use native.Mathlib.Omega.{arith}
 use lib.Dec.{eqb}
-use lib.ListN.{length, getD, length-append}
-use borrow.Author.Tests.{eqb-true, eqb-false, eq-eqb, ne-eqb}
+use lib.ListN.{length, length-append}
+use borrow.Author.Tests.{eqb-true, eqb-false, eq-eqb}
 use Rattle.answers.specs.Numbers.{done, noneLeft}
 use Rattle.answers.specs.Rows.{first, answer}
 use Rattle.answers.specs.declared.Answer.{Answer}
 use Rattle.bitmap.specs.Bitmap.{bitAt, listedCount, firstUnlisted}
 use Rattle.bitmap.proofs.Trailing.{Smallest, first-found, first-none}
-use Rattle.page.specs.Page.{Rules, blockB, listedB}
-use Rattle.page.specs.Sequences.{times, Once}
+use Rattle.page.specs.Page.{listedB}
+use Rattle.page.specs.Sequences.{times}
 use Rattle.page.proofs.Rules.{rules-test, workers-test, block-test}
 use Rattle.page.proofs.Counting.{times-append, total, total-length, length-le}
 use Rattle.machine.specs.Config.{Config, lentOf}
 use Rattle.machine.specs.Readers.{readsB, answerUnless, listedCountOf, firstUnlistedOf, entryRefusal}
-use Rattle.demands.specs.Simple.{Simple, Hands, still, handsOf, heldBy, sumOver, timesIn}
+use Rattle.demands.specs.Simple.{Simple, Hands, handsOf, heldBy, sumOver, timesIn}
 use Rattle.demands.specs.Relation.{Sim}
-use Rattle.demands.specs.Every.{blocksHeld, blocksIn, Stands, WhatStands}
-use Rattle.demands.proofs.Facts.{one-place, held-part, sum-part}
+use Rattle.demands.specs.Every.{blocksHeld, blocksIn, WhatStands}
+use Rattle.demands.proofs.Facts.{one-place, held-part}
 
 -- ---- set bits number the blocks
 

@@ -1,36 +1,28 @@
 -- The start of requests 6 to 12: the note is made, and a push takes its block into the hand. Assumes nothing.
-use Prim.Native.Nat.{ℕ, zero, suc, _+_, _≤_, _<_}
-use mathlib.Core.Path.{_≡_, refl, sym, ap, _∙_, subst}
-use mathlib.Core.Logic.{_≢_, _⊎_, inl, inr}
-use mathlib.Core.Bool.{Bool, true, false, not, _&&_, _||_, true≢false}
+use Prim.Native.Nat.{ℕ, _+_, _≤_, _<_}
+use mathlib.Core.Path.{_≡_, refl}
+use mathlib.Core.Logic.{inl}
+use mathlib.Core.Bool.{true}
 use mathlib.Core.List.{List, [], _∷_}
 use native.Mathlib.Omega.{arith}
-use lib.Dec.{eqb, ltb, leb}
-use lib.ListN.{length, getD, set}
-use borrow.Author.Tests.{eqb-true, eqb-false, not-false, leb-true}
-use Rattle.answers.specs.Numbers.{underWay}
-use Rattle.answers.specs.Rows.{Outcome, outcome}
-use Rattle.answers.proofs.Rows.{and-left, and-right}
+use lib.ListN.{length}
 use Rattle.words.specs.Tagged.{addressOf}
 use Rattle.bitmap.specs.Bitmap.{bitAt, bitPut}
 use Rattle.bitmap.proofs.Bits.{bit-lt, put-length, at-put-same}
-use Rattle.page.specs.Page.{Lent, lent, Rules}
-use Rattle.page.specs.Sequences.{times, Apart, Listed, Runs, Stays, OthersStay}
+use Rattle.page.specs.Page.{lent}
+use Rattle.page.specs.Sequences.{times, Listed, Runs, OthersStay}
 use Rattle.page.proofs.Rules.{bit-inside}
 use Rattle.page.proofs.Running.{others-run}
 use Rattle.lists.proofs.Sequences.{bit-set-adds}
 use Rattle.staged.specs.declared.Worker.{Worker}
-use Rattle.staged.specs.Operations.{pushShared, takeShared, pushTagged, takeTagged, setTag, askTag, awaitTag, stagedB, pushesB, takesB, onTaggedB, firstStage, begun}
-use Rattle.staged.specs.Start.{startAct, startFitsB}
+use Rattle.staged.specs.Operations.{pushShared, takeShared, pushTagged, takeTagged, setTag, askTag, awaitTag, pushesB, firstStage, begun}
+use Rattle.staged.specs.Start.{startAct}
 use Rattle.machine.specs.Config.{Config, config, lentOf, workerOf, starterOf, putWorker, putStarter, over}
-use Rattle.machine.specs.Table.{argumentsFitB, anyNamed}
-use Rattle.machine.proofs.Passing.{Passed}
-use Rattle.demands.specs.Simple.{Simple, Hands, hands, handsOf, putHands, heldBy, timesIn, inUse, isNil, judged, overHands}
+use Rattle.demands.specs.Simple.{Simple, Hands, hands, handsOf, putHands, timesIn, overHands}
 use Rattle.demands.specs.Simple as simple
-use Rattle.demands.specs.Relation.{Pushing, loads, Doing, pushingShared, pushingTagged, takingShared, takingTagged, setting, asking, awaiting, Fits, Sim}
-use Rattle.demands.proofs.Facts.{one-place, free-clear}
-use Rattle.demands.proofs.Change.{Next, Change, rebuild, fits-stays}
-use Rattle.demands.proofs.Refusals.{named-block}
+use Rattle.demands.specs.Relation.{loads, Doing, pushingShared, pushingTagged, takingShared, takingTagged, setting, asking, awaiting, Sim}
+use Rattle.demands.proofs.Facts.{free-clear}
+use Rattle.demands.proofs.Change.{rebuild, fits-stays}
 
 module _ (c : Config) (s : Simple) (m : Sim c s) (w : ℕ) (l : w < c .state .w) where
   abbrev mine : Hands

@@ -1,7 +1,6 @@
 -- T switched on and off: refused alike, done alike. Assumes nothing.
-use Prim.Native.Nat.{ℕ, zero, suc, _+_, _≤_, _<_, suc-le-suc}
+use Prim.Native.Nat.{ℕ, zero, suc, _≤_, _<_, suc-le-suc}
 use mathlib.Core.Path.{_≡_, refl, sym, ap, ap₂, _∙_, subst}
-use mathlib.Core.Logic.{_≢_, _⊎_, inl, inr}
 use mathlib.Core.Bool.{Bool, true, false, not, _||_, true≢false}
 use mathlib.Core.List.{List, [], _∷_}
 use native.Mathlib.Omega.{arith}
@@ -10,20 +9,20 @@ use lib.Dec.{eqb}
 use lib.ListN.{length, getD}
 use borrow.Author.Tests.{eqb-true, not-false}
 use Rattle.answers.specs.Numbers.{badPage, busy, switched, notEmpty}
-use Rattle.answers.specs.Rows.{Row, row, first, Outcome, outcome, unless}
-use Rattle.answers.proofs.Rows.{Agree, none, then, first-agree, first-past, first-none}
+use Rattle.answers.specs.Rows.{Row, row, first, outcome, unless}
+use Rattle.answers.proofs.Rows.{none, then, first-agree, first-past, first-none}
 use Rattle.words.specs.Tagged.{tagOf, addressOf}
 use Rattle.page.specs.Page.{Lent}
-use Rattle.page.specs.Sequences.{times, Runs}
+use Rattle.page.specs.Sequences.{times}
 use Rattle.page.proofs.Running.{run-none}
 use Rattle.staged.specs.declared.Worker.{Worker}
 use Rattle.staged.specs.Operations.{busyB}
 use Rattle.machine.specs.Config.{Config, lentOf, workerOf, blank, rulesB}
 use Rattle.machine.specs.Table.{anyBusy, onRefusal, offRefusal}
 use Rattle.machine.specs.Switch.{withSwitch, switchOnOf, switchOffOf}
-use Rattle.demands.specs.Simple.{Simple, simple, Hands, still, handsOf, heldBy, sumOver, timesIn, isNil, anyNote}
+use Rattle.demands.specs.Simple.{Simple, simple, Hands, still, handsOf, isNil, anyNote}
 use Rattle.demands.specs.Simple as machine
-use Rattle.demands.specs.Relation.{Doing, resting, pushingShared, pushingTagged, takingShared, takingTagged, setting, asking, awaiting, Fits, Sim}
+use Rattle.demands.specs.Relation.{Doing, resting, pushingShared, pushingTagged, takingShared, takingTagged, setting, asking, awaiting, Sim}
 use Rattle.demands.proofs.Refusals.{rules-hold, note-is, empty-is}
 use Rattle.demands.proofs.Requests.{Explained, nil-is}
 

@@ -2,7 +2,7 @@
 -- in which an address is used again between a load and its exchange. Assumes nothing.
 use Prim.Native.Nat.{ℕ, _*_}
 use mathlib.Core.Path.{_≡_, refl}
-use mathlib.Core.Bool.{Bool, true, false}
+use mathlib.Core.Bool.{true, false}
 use mathlib.Core.List.{List, [], _∷_, _++_}
 use lib.ListN.{getD, replicate}
 use Rattle.answers.specs.Rows.{all, first, answer}
@@ -24,9 +24,9 @@ use Rattle.machine.specs.Table.{table, argumentsFitB, anyNamed, ownUnsound, lin
 use Rattle.machine.specs.Requests.{atOnceAct, requestAct, requestOf}
 use Rattle.machine.specs.Moves.{moveOf}
 use Rattle.machine.specs.Switch.{switchOnOf, switchOffOf}
-use Rattle.demands.specs.Simple.{Simple, judged, ownAct, act, start}
+use Rattle.demands.specs.Simple.{judged, ownAct, act, start}
 use Rattle.demands.specs.Simple as simple
-use Rattle.demands.specs.Moments.{Event, request, move, on, off, step, simpleStep, endsAtLoad, actOf, moment, endOf, simpleEnd}
+use Rattle.demands.specs.Moments.{Event, request, move, on, step, simpleStep, endsAtLoad, actOf, moment, endOf, simpleEnd}
 use Rattle.demands.specs.Compare.{answersOf, answersDue, momentsOf}
 
 -- a fresh page of 63 blocks of 4 words, whatever its words, and eight workers

@@ -1,18 +1,18 @@
 -- A trail's steps join up, its last place is the block's place, and a place tells where the block is. Assumes nothing.
 use Prim.Native.Nat.{ℕ, zero, suc, _+_, _<_}
 use mathlib.Core.Path.{_≡_, refl, sym, ap, _∙_, subst}
-use mathlib.Core.Bool.{Bool, true, false, cond, true≢false}
+use mathlib.Core.Bool.{Bool, true, false, cond}
 use mathlib.Core.List.{List, [], _∷_}
 use native.Mathlib.Omega.{arith}
-use lib.Dec.{ltb, eqb}
+use lib.Dec.{eqb}
 use lib.ListN.{getD}
 use borrow.Author.Tests.{eqb-true, ltb-true, ltb-false}
 use Rattle.answers.proofs.Rows.{and-left, and-right}
 use Rattle.page.specs.Sequences.{times}
 use Rattle.machine.specs.Config.{Config}
-use Rattle.demands.specs.Simple.{Simple, Hands, still, handsOf, heldBy, sumOver, timesIn}
+use Rattle.demands.specs.Simple.{Simple, Hands, still, handsOf, heldBy, sumOver}
 use Rattle.demands.specs.Moments.{Event, step, moment, isMoment, follow, simpleEnd}
-use Rattle.demands.specs.Trail.{Place, caller, shared, tagged, own, got, hand, before, Spot, spot, isIn, spotAmong, spotOf, placeOf, kindOf, whose, samePlace, Step, stepIf, trail, Joins, IsAt}
+use Rattle.demands.specs.Trail.{Place, caller, shared, tagged, own, got, hand, before, spot, isIn, spotAmong, spotOf, placeOf, kindOf, whose, samePlace, stepIf, trail, Joins, IsAt}
 
 -- the place of a kind and a worker
 at : ℕ → ℕ → Place

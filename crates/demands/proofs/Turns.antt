@@ -1,25 +1,24 @@
 -- Moves of a worker that leave page and bitmap as they are, and the write of a link: the relation after each. Assumes nothing.
-use Prim.Native.Nat.{ℕ, zero, suc, _+_, _-_, _*_, _%_, _≤_, _<_}
-use mathlib.Core.Path.{_≡_, refl, sym, ap, _∙_, subst}
+use Prim.Native.Nat.{ℕ, _+_, _<_}
+use mathlib.Core.Path.{_≡_, refl, sym, ap, subst}
 use mathlib.Core.Logic.{_≢_, _⊎_, inl, inr}
-use mathlib.Core.Bool.{Bool, true, false}
+use mathlib.Core.Bool.{false}
 use mathlib.Core.List.{List, [], _∷_}
 use native.Mathlib.Omega.{arith}
-use lib.ListN.{length, getD, set, length-set}
+use lib.ListN.{getD, set, length-set}
 use lib.Seq.{getD-set-same, getD-set-other, set-getD}
 use Rattle.words.specs.Tagged.{tagOf, addressOf}
-use Rattle.bitmap.specs.Bitmap.{bitAt}
-use Rattle.page.specs.Page.{Lent, lent, Rules, place}
-use Rattle.page.specs.Sequences.{hit, times, Apart, Listed, Runs, Stays, OthersStay}
+use Rattle.page.specs.Page.{lent, place}
+use Rattle.page.specs.Sequences.{hit, times, Listed, Runs, OthersStay}
 use Rattle.page.proofs.Rules.{place-apart, place-inside}
 use Rattle.page.proofs.Counting.{hit-is, hit-same}
 use Rattle.page.proofs.Running.{others-run}
 use Rattle.staged.specs.declared.Worker.{Worker}
 use Rattle.machine.specs.Config.{Config, config, stateOf, lentOf, workerOf, putWorker}
-use Rattle.demands.specs.Simple.{Simple, simple, Hands, hands, still, handsOf, putHands, heldBy, timesIn}
+use Rattle.demands.specs.Simple.{Simple, simple, Hands, hands, still, handsOf, heldBy}
 use Rattle.demands.specs.Relation.{Doing, Fits, Sim}
 use Rattle.demands.proofs.Facts.{one-place, held-part, held-two}
-use Rattle.demands.proofs.Change.{Next, Change, rebuild, fits-stays}
+use Rattle.demands.proofs.Change.{rebuild, fits-stays}
 
 module _ (c : Config) (s : Simple) (m : Sim c s) (w : ℕ) (l : w < c .state .w) where
   abbrev mine : Hands

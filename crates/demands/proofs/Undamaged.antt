@@ -1,23 +1,23 @@
 -- A worker that fits its note is not damaged at any stage. Assumes nothing.
-use Prim.Native.Nat.{ℕ, zero, suc, _+_, _-_, _*_, _%_, _≤_, _<_}
-use mathlib.Core.Path.{_≡_, refl, sym, ap, _∙_, subst}
+use Prim.Native.Nat.{ℕ, zero, suc, _%_, _≤_, _<_}
+use mathlib.Core.Path.{_≡_, refl, ap, _∙_, subst}
 use mathlib.Core.Logic.{_≢_, _⊎_, inl, inr}
-use mathlib.Core.Bool.{Bool, true, false, not, _&&_, _||_}
+use mathlib.Core.Bool.{Bool, true, false, _&&_, _||_}
 use mathlib.Core.List.{List, [], _∷_}
 use native.Mathlib.Omega.{arith}
-use lib.Dec.{eqb, ltb, leb}
+use lib.Dec.{eqb}
 use borrow.Author.Tests.{eq-eqb, le-ltb}
 use Rattle.words.specs.Tagged.{tagOf, addressOf}
-use Rattle.page.specs.Page.{Lent, Rules, blockB, listedB, place, goodB, soundIn}
+use Rattle.page.specs.Page.{Lent, Rules, blockB, listedB, goodB, soundIn}
 use Rattle.page.specs.Page as page
 use Rattle.page.specs.Sequences.{Listed, Runs}
 use Rattle.page.proofs.Rules.{block-test, good-test, address-even}
 use Rattle.staged.specs.declared.Worker.{Worker}
-use Rattle.staged.specs.Operations.{pushShared, takeShared, pushTagged, takeTagged, setTag, askTag, awaitTag, loading, writing, exchanging, swapping, masking, maxSightings, pushesB, takesB, onSharedB, onTaggedB, wordOf, offB, fullB, stagesOf, oneOf}
+use Rattle.staged.specs.Operations.{pushShared, takeShared, pushTagged, takeTagged, setTag, askTag, awaitTag, loading, exchanging, swapping, masking, maxSightings, pushesB, takesB, onSharedB, onTaggedB, wordOf, offB, fullB, stagesOf, oneOf}
 use Rattle.staged.specs.Damage.{handBad, tagBad, sightingsBad, tagOnShared, headBad, seenBad, any, damagedB}
 use Rattle.machine.specs.Config.{Config, lentOf, workerOf, turnOf}
-use Rattle.demands.specs.Simple.{Simple, Hands, handsOf}
-use Rattle.demands.specs.Relation.{Seen, Pushing, loads, writes, exchanges, Doing, resting, pushingShared, pushingTagged, takingShared, takingTagged, setting, asking, awaiting, Fits, Sim}
+use Rattle.demands.specs.Simple.{Simple, handsOf}
+use Rattle.demands.specs.Relation.{Seen, Pushing, loads, writes, exchanges, Doing, resting, pushingShared, pushingTagged, takingShared, takingTagged, setting, asking, awaiting, Sim}
 use Rattle.demands.proofs.Facts.{shared-sound, tagged-sound}
 
 -- a head that runs has no tag

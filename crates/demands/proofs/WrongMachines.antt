@@ -2,7 +2,7 @@
 -- The real machine keeps up on the same run. Assumes nothing.
 use Prim.Native.Nat.{ℕ, _+_}
 use mathlib.Core.Path.{_≡_, refl}
-use mathlib.Core.Bool.{Bool, true, false, not, _&&_, _||_, cond}
+use mathlib.Core.Bool.{Bool, true, false, _&&_, cond}
 use mathlib.Core.List.{List, [], _∷_, _++_}
 use lib.Dec.{eqb, leb}
 use lib.ListN.{length, set, replicate}
@@ -17,16 +17,16 @@ use Rattle.page.specs.Walk.{walkFrom, walkOf, lastOf}
 use Rattle.page.specs.Sequences.{hit, upFrom}
 use Rattle.lists.specs.Lists.{Lists}
 use Rattle.lists.specs.Own.{with, insertAct, popAct, appendAct, extendAct, releaseAct, emptyAct}
-use Rattle.staged.specs.Operations.{pushShared, askTag, loading, writing, exchanging, swapping, stagedB, pushesB, takesB, onSharedB, onTaggedB, wordOf, offB, fullB, firstStage, stagesOf, oneOf, begun, record8, atStage, sighted}
+use Rattle.staged.specs.Operations.{pushShared, askTag, loading, writing, exchanging, swapping, stagedB, pushesB, takesB, onSharedB, onTaggedB, wordOf, offB, fullB, firstStage, stagesOf, oneOf, begun, record8, atStage}
 use Rattle.staged.specs.Start.{startFitsB, startAct}
 use Rattle.staged.specs.Damage.{Turn, turn, headWord, handBad, tagOnShared, seenBad, headBad, sightingsBad, tagBad, any, damagedB}
-use Rattle.staged.specs.Moves.{withWorker, goesOn, ends, endsWith, loadAsk, loadAwait, loadAct, writeAct, newWord, exchangeValue, failsB, exchangeAct, swapAct, maskAct, moveAct}
-use Rattle.machine.specs.Config.{Config, config, stateOf, listsOf, starterOf, turnOf, putLists, putStarter, putTurn, over, rulesB, freshState, freshOf}
+use Rattle.staged.specs.Moves.{goesOn, ends, endsWith, loadAsk, loadAwait, loadAct, writeAct, newWord, exchangeValue, failsB, exchangeAct, swapAct, maskAct, moveAct}
+use Rattle.machine.specs.Config.{Config, config, stateOf, listsOf, starterOf, turnOf, putLists, putStarter, putTurn, over, rulesB, freshState}
 use Rattle.machine.specs.Table.{pop, append, table, argumentsFitB, anyNamed, ownUnsound, linkUnsound, walkBroken, testsOf, requestRefusal, moveRefusal, anyBusy, onRefusal, offRefusal}
 use Rattle.machine.specs.Requests.{atOnceAct, requestAct, requestOf}
 use Rattle.machine.specs.Moves.{moveOf}
 use Rattle.machine.specs.Switch.{switchOnOf, switchOffOf}
-use Rattle.demands.specs.Simple.{Simple, judged, ownAct, act, start}
+use Rattle.demands.specs.Simple.{judged, ownAct, act, start}
 use Rattle.demands.specs.Simple as simple
 use Rattle.demands.specs.Moments.{Event, request, move, on, off, store, step, simpleStep, endsAtLoad, actOf, moment}
 use Rattle.demands.specs.Compare.{Machine, keepsUp}

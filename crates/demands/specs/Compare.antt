@@ -1,6 +1,5 @@
 -- Comparing a machine's run with the simple machine: at each moment of the real machine the simple machine's answer is due, at
 -- any other move 1 with value 0.
-use Prim.Native.Nat.{ℕ}
 use mathlib.Core.Bool.{Bool, true, false, _&&_}
 use mathlib.Core.List.{List, [], _∷_}
 use lib.Dec.{eqb}

@@ -3,12 +3,12 @@
 use Prim.Native.Nat.{ℕ, _+_, _≤_, _<_}
 use mathlib.Core.Path.{_≡_}
 use mathlib.Core.Logic.{_≢_, _↔_}
-use mathlib.Core.Bool.{Bool, true, false, not, _&&_}
+use mathlib.Core.Bool.{Bool, true, false, _&&_}
 use mathlib.Core.List.{List, [], _∷_}
 use lib.Dec.{eqb}
 use lib.ListN.{length}
-use Rattle.answers.specs.Numbers.{done, underWay, badPage, noneLeft, damaged}
-use Rattle.answers.specs.Rows.{Outcome, answer}
+use Rattle.answers.specs.Numbers.{done, underWay, noneLeft, damaged}
+use Rattle.answers.specs.Rows.{answer}
 use Rattle.words.specs.Tagged.{freeing}
 use Rattle.bitmap.specs.Bitmap.{listedCount}
 use Rattle.page.specs.Sequences.{one}
@@ -16,7 +16,7 @@ use Rattle.staged.specs.Operations.{askTag, busyB}
 use Rattle.machine.specs.Config.{Config, workerOf, lentOf, freshOf}
 use Rattle.machine.specs.Readers.{listedCountOf, firstUnlistedOf, entryRefusal}
 use Rattle.demands.specs.Simple.{Simple, Hands, start, handsOf, timesIn, sumOver}
-use Rattle.demands.specs.Moments.{Event, request, move, on, off, store, step, simpleStep, Act, called, exchanged, swapped, masked, loaded, none, moment, isMoment, Allowed, follow, AllAllowed, endOf, simpleEnd}
+use Rattle.demands.specs.Moments.{Event, request, move, on, off, store, step, simpleStep, Act, called, exchanged, swapped, masked, loaded, none, moment, isMoment, follow, AllAllowed, endOf, simpleEnd}
 use Rattle.demands.specs.Relation.{Sim}
 
 -- ---- one event

@@ -1,11 +1,11 @@
 -- Events, their steps on the real machine and on the simple one, and the moments: which act, if any, an event is, read from
 -- the configuration before it (document 01, The simple machine: Moments).
-use Prim.Native.Nat.{ℕ, _+_, _≤_}
+use Prim.Native.Nat.{ℕ, _≤_}
 use mathlib.Core.Path.{_≡_}
 use mathlib.Core.Bool.{Bool, true, false, not, _&&_, _||_, cond}
 use mathlib.Core.List.{List, [], _∷_}
 use lib.Dec.{eqb, leb}
-use lib.ListN.{length, set}
+use lib.ListN.{set}
 use Rattle.answers.specs.Numbers.{done}
 use Rattle.answers.specs.Rows.{Outcome, outcome}
 use Rattle.words.specs.Tagged.{tagOf, freeing, noDelayedFree}

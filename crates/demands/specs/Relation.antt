@@ -1,10 +1,10 @@
 -- How a configuration stands for a state of the simple machine: each head runs over its sequence (demand 2's `Runs`), each
 -- record fits its note, and set bits are the blocks in use.
-use Prim.Native.Nat.{ℕ, _+_, _≤_, _<_}
+use Prim.Native.Nat.{ℕ, _≤_, _<_}
 use mathlib.Core.Path.{_≡_}
 use mathlib.Core.Logic.{_⊎_}
 use mathlib.Core.Bool.{Bool, true, false}
-use mathlib.Core.List.{List, [], _∷_}
+use mathlib.Core.List.{[], _∷_}
 use lib.ListN.{length, getD}
 use Rattle.words.specs.Tagged.{tagOf, addressOf, noDelayedFree}
 use Rattle.bitmap.specs.Bitmap.{bitAt}

@@ -1,12 +1,12 @@
 -- The simple machine: sequences, hands, a tag, a switch and notes (document 01, The simple machine). It has no page, no
 -- bitmap, no heads and no stages.
-use Prim.Native.Nat.{ℕ, zero, suc, _+_}
+use Prim.Native.Nat.{ℕ, _+_}
 use mathlib.Core.Bool.{Bool, true, false, not, _||_, cond}
 use mathlib.Core.List.{List, [], _∷_, _++_}
 use lib.Dec.{ltb, eqb}
 use lib.ListN.{length, getD, set, replicate}
-use Rattle.answers.specs.Numbers.{done, underWay, noWorker, busy, idle, switched, notEmpty, noSuch}
-use Rattle.answers.specs.Rows.{row, first, Outcome, outcome, refused, unless}
+use Rattle.answers.specs.Numbers.{done, underWay, noWorker, busy, idle, switched, notEmpty}
+use Rattle.answers.specs.Rows.{row, first, Outcome, outcome, unless}
 use Rattle.words.specs.Tagged.{useDelayedFree, freeing, noDelayedFree}
 use Rattle.page.specs.Sequences.{one, times, upFrom}
 use Rattle.staged.specs.Operations.{pushShared, takeShared, pushTagged, takeTagged, setTag, askTag, stagedB, pushesB}

@@ -1,14 +1,14 @@
 -- The trail of one block: each event that moved it, the worker, from where to where, and how many blocks were before it there,
 -- which is the order in which it is read.
-use Prim.Native.Nat.{ℕ, zero, suc, _+_, _<_}
+use Prim.Native.Nat.{ℕ, suc, _<_}
 use mathlib.Core.Path.{_≡_}
-use mathlib.Core.Bool.{Bool, true, false, not, _&&_, cond}
+use mathlib.Core.Bool.{Bool, true, false, _&&_, cond}
 use mathlib.Core.List.{List, [], _∷_}
 use lib.Dec.{ltb, eqb}
 use Rattle.page.specs.Sequences.{times}
 use Rattle.machine.specs.Config.{Config}
 use Rattle.demands.specs.Simple.{Simple, Hands, handsOf, timesIn}
-use Rattle.demands.specs.Moments.{Event, request, move, on, off, store, step, moment, isMoment, follow}
+use Rattle.demands.specs.Moments.{Event, step, moment, isMoment, follow}
 
 -- where a block is: with its caller, on S or T, on a worker's own or got, or in a worker's hand
 pub data Place : Type 0 where

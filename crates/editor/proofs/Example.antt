@@ -1,7 +1,7 @@
 -- The whole case of document 01, from its bytes to the lines that are printed, computed on the definitions. Assumes nothing.
 use Prim.Native.Nat.{ℕ}
 use mathlib.Core.Path.{_≡_, refl}
-use mathlib.Core.List.{List, [], _∷_, _++_}
+use mathlib.Core.List.{List, [], _∷_}
 use Rattle.answers.specs.Rows.{all, first}
 use Rattle.words.specs.Digits.{digit, putDigit}
 use Rattle.bitmap.specs.Bitmap.{bitAt, bitPut, anyFrom, putRun}

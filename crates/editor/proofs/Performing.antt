@@ -6,12 +6,12 @@ use native.Mathlib.Omega.{arith}
 use lib.ListN.{length, take}
 use Rattle.answers.specs.Rows.{Outcome}
 use Rattle.records.specs.declared.Filled.{Filled}
-use Rattle.records.specs.Fill.{Filling, came, fillOf}
+use Rattle.records.specs.Fill.{came, fillOf}
 use Rattle.records.proofs.Filling.{Holds, fill-holds}
 use Rattle.machine.specs.declared.Reply.{Reply}
 use Rattle.machine.specs.Config.{Config, config}
 use Rattle.machine.specs.Events.{eventWords, Run, ran, cameRun, eventsOf}
-use Rattle.editor.specs.Chunk.{Performed, performed, runOf, performOf}
+use Rattle.editor.specs.Chunk.{performed, runOf, performOf}
 
 -- the records are within the bytes, and their words within the room
 pub filled-holds : (bytes events : List ℕ) {r : Filled} {words : List ℕ} → came r words ≡ fillOf bytes events → Holds bytes events (came r words)

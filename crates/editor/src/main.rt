@@ -10,11 +10,11 @@ ghost use Rattle.editor.specs.Chunk.{Room, performed, performOf};
 
 mod text;
 
+use events::ANSWER_WORDS;
+use events::EVENT_WORDS;
 use libc::STDIN_FILENO;
 use libc::STDOUT_FILENO;
 use machine::State;
-use machine::events::ANSWER_WORDS;
-use machine::events::EVENT_WORDS;
 
 // The page: n blocks of bw words, W workers.
 const BLOCKS: u64 = 63;
@@ -157,7 +157,7 @@ fn perform(
     let filled = records::fill(bytes, &mut *events);
     let count = filled.records as usize;
     let words = EVENT_WORDS * count;
-    let r = machine::events::events(state, page, bits, &events[..words], answers);
+    let r = events::events(state, page, bits, &events[..words], answers);
     let next = r.state;
     Performed {
         state: next,

@@ -86,7 +86,7 @@ fn run(
 ) -> Reply
     ensures { λ r. ⌜ cameRun r (now (page .exit)) (now (bits .exit)) (now (answers .exit)) ≡ eventsOf (ran (holding (now (words .entry)) (now (page .entry)) (now (bits .entry))) (now (answers .entry))) (now (events .entry)) ⌝ }
 {
-    machine::events::events(load(words), page, bits, events, answers)
+    events::events(load(words), page, bits, events, answers)
 }
 
 // A request, as a run of one event. What the run writes, or leaves as the refusal by 2, is the answer.
@@ -167,7 +167,7 @@ pub extern "C" fn albmerik_listed_count(
 ) -> Answer
     ensures { λ r. ⌜ r ≡ handedOf (listedCountOf (lentOf (holding (now (state .entry)) (now (page .entry)) (now (bits .entry)))) (spelled (now (state .entry)) .w)) ⌝ }
 {
-    handed(machine::readers::listed_count(state[N], state[BW], state[W], page, bits))
+    handed(readers::listed_count(state[N], state[BW], state[W], page, bits))
 }
 
 // The smallest block that is not listed.
@@ -179,7 +179,7 @@ pub extern "C" fn albmerik_first_unlisted(
 ) -> Answer
     ensures { λ r. ⌜ r ≡ handedOf (firstUnlistedOf (lentOf (holding (now (state .entry)) (now (page .entry)) (now (bits .entry)))) (spelled (now (state .entry)) .w)) ⌝ }
 {
-    handed(machine::readers::first_unlisted(state[N], state[BW], state[W], page, bits))
+    handed(readers::first_unlisted(state[N], state[BW], state[W], page, bits))
 }
 
 // Which number applies to block a's entry.
@@ -192,7 +192,7 @@ pub extern "C" fn albmerik_entry_answer(
 ) -> Answer
     ensures { λ r. ⌜ r ≡ handedOf (entryAnswerOf (lentOf (holding (now (state .entry)) (now (page .entry)) (now (bits .entry)))) (spelled (now (state .entry)) .w) a) ⌝ }
 {
-    handed(machine::readers::entry_answer(state[N], state[BW], state[W], page, bits, a))
+    handed(readers::entry_answer(state[N], state[BW], state[W], page, bits, a))
 }
 
 // How many leading words of two entries are equal.
@@ -206,5 +206,5 @@ pub extern "C" fn albmerik_compare_entries(
 ) -> Answer
     ensures { λ r. ⌜ r ≡ handedOf (compareOf (lentOf (holding (now (state .entry)) (now (page .entry)) (now (bits .entry)))) (spelled (now (state .entry)) .w) a b) ⌝ }
 {
-    handed(machine::readers::compare_entries(state[N], state[BW], state[W], page, bits, a, b))
+    handed(readers::compare_entries(state[N], state[BW], state[W], page, bits, a, b))
 }

@@ -7,7 +7,7 @@ use native.Mathlib.Omega.{arith}
 use lib.ListN.{replicate, getD}
 use Rattle.answers.specs.Rows.{all, first}
 use Rattle.words.specs.Digits.{digit, putDigit}
-use Rattle.bitmap.specs.Bitmap.{bitAt, bitPut, anyFrom, anySet, putRun}
+use Rattle.bitmap.specs.Bitmap.{bitAt, bitPut, anyFrom, putRun}
 use Rattle.bitmap.proofs.Ranges.{any-none}
 use Rattle.page.specs.Page.{Rules, fitsB, blockB, runB, goodB, soundB}
 use Rattle.page.specs.Walk.{walkFrom, walkOf, lastOf}

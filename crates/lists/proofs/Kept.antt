@@ -1,24 +1,23 @@
 -- In any state each call on the lists keeps the words that are no links, bit 0 and the bits above n. Assumes nothing.
-use Prim.Native.Nat.{ℕ, zero, suc, _+_, _/_, _≤_, _<_}
-use mathlib.Core.Path.{_≡_, refl, sym, ap, _∙_, subst}
+use Prim.Native.Nat.{ℕ, zero, suc, _+_, _≤_, _<_}
+use mathlib.Core.Path.{_≡_, refl, _∙_}
 use mathlib.Core.Logic.{_≢_}
-use mathlib.Core.Bool.{Bool, true, false, not}
+use mathlib.Core.Bool.{Bool, true, false}
 use mathlib.Core.List.{List, [], _∷_}
 use native.Mathlib.Omega.{arith}
 use lib.Dec.{eqb}
-use lib.ListN.{length, getD, set, length-set}
+use lib.ListN.{getD, set, length-set}
 use lib.Seq.{getD-set-other}
 use borrow.Author.Tests.{eqb-false, ne-eqb, not-false}
-use Rattle.answers.specs.Rows.{first}
 use Rattle.answers.proofs.Rows.{first-none, unless-either}
 use Rattle.bitmap.specs.Bitmap.{bitAt, bitPut, putRun}
 use Rattle.bitmap.proofs.Bits.{at-put-other, put-length}
 use Rattle.bitmap.proofs.Ranges.{run-length, run-before, run-after}
-use Rattle.page.specs.Page.{Lent, lent, Rules, place, blockOf, soundIn}
+use Rattle.page.specs.Page.{Lent, lent, place, blockOf}
 use Rattle.page.specs.Keeps.{NoLink, Keeps}
-use Rattle.page.specs.Walk.{walkOf, lastOf}
-use Rattle.page.specs.Sequences.{times, Each, upFrom, laid, Listed, Runs}
-use Rattle.page.proofs.Rules.{rules-facts, block-facts, run-facts, sound-facts}
+use Rattle.page.specs.Walk.{lastOf}
+use Rattle.page.specs.Sequences.{Each, upFrom, Listed, Runs}
+use Rattle.page.proofs.Rules.{block-facts, run-facts, sound-facts}
 use Rattle.page.proofs.Counting.{each-head, each-tail, up-each, last-in, last-cons}
 use Rattle.page.proofs.Chains.{laid-length, laid-other}
 use Rattle.page.proofs.Running.{run-walk}

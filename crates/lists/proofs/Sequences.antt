@@ -1,29 +1,28 @@
 -- Demand 2 for a worker's own list: the statements of `Exact`, proved. Assumes nothing.
-use Prim.Native.Nat.{ℕ, zero, suc, _+_, _-_, _/_, _≤_, _<_}
-use mathlib.Core.Path.{_≡_, refl, sym, ap, _∙_, subst}
+use Prim.Native.Nat.{ℕ, zero, suc, _+_, _/_, _≤_, _<_}
+use mathlib.Core.Path.{_≡_, refl, ap, subst}
 use mathlib.Core.Logic.{_≢_, _⊎_, inl, inr}
-use mathlib.Core.Bool.{Bool, true, false, not}
+use mathlib.Core.Bool.{Bool, true, false}
 use mathlib.Core.List.{List, [], _∷_, _++_}
-use native.Mathlib.Decide.{ℕ-discrete, decLt}
+use native.Mathlib.Decide.{decLt}
 use native.Mathlib.Omega.{arith}
 use lib.Dec.{eqb}
-use lib.ListN.{length, getD, set}
+use lib.ListN.{length, set}
 use lib.Seq.{getD-set-other}
 use borrow.Author.Tests.{eqb-false, ne-eqb}
-use Rattle.answers.specs.Numbers.{done}
-use Rattle.answers.specs.Rows.{row, first, Outcome, outcome, unless}
+use Rattle.answers.specs.Rows.{first}
 use Rattle.bitmap.specs.Bitmap.{bitAt, bitPut, anySet, putRun}
 use Rattle.bitmap.proofs.Bits.{bit-lt, at-put-same, at-put-other, put-length}
 use Rattle.bitmap.proofs.Ranges.{run-before, run-inside, run-after, any-clear}
-use Rattle.page.specs.Page.{Lent, lent, Rules, keepsRulesB, blockB, listedB, place, addressOf, blockOf, linkAt, soundIn}
+use Rattle.page.specs.Page.{Lent, lent, Rules, place, blockOf, linkAt, soundIn}
 use Rattle.page.specs.Walk.{Walk, walkOf, lastOf}
-use Rattle.page.specs.Sequences.{hit, times, Each, Once, Apart, upFrom, headOf, laid, Listed, Runs, Stays, OthersStay, OthersRun}
+use Rattle.page.specs.Sequences.{hit, times, Each, Once, upFrom, Listed, Runs, OthersStay}
 use Rattle.page.proofs.Rules.{rules-test, block-test, run-test, bit-inside, place-apart}
-use Rattle.page.proofs.Counting.{hit-is, hit-same, hit-other, times-append, each-head, each-tail, each-cons, each-append, up-below, up-times, up-above, up-each, last-in, last-cons}
-use Rattle.page.proofs.Running.{others-run, laid-first, laid-stay, run-once, run-sound, run-some, run-front, run-link, run-rest, run-none, run-append, walk-is}
-use Rattle.lists.specs.Lists.{Lists, lists}
+use Rattle.page.proofs.Counting.{hit-is, hit-same, each-head, each-tail, each-cons, up-below, up-times, up-above, up-each, last-in, last-cons}
+use Rattle.page.proofs.Running.{others-run, laid-first, laid-stay, run-once, run-sound, run-some, run-front, run-rest, run-none, run-append, walk-is}
+use Rattle.lists.specs.Lists.{Lists}
 use Rattle.lists.specs.Own.{clearAll, insertRefusal, insertAct, insertOf, popRefusal, popAct, popOf, appendRefusal, appendAct, appendOf, extendRefusal, extendAct, extendOf, releaseRefusal, releaseAct, releaseOf, emptyRefusal, emptyAct, emptyOf}
-use Rattle.lists.specs.Exact.{Leaves, Inserted, InsertPutsFirst, Popped, PopTakesFirst, Appended, AppendPutsTakenFirst, Extended, ExtendPutsAscendingFirst, Released, ReleaseClearsAll, Told, EmptyTells}
+use Rattle.lists.specs.Exact.{Inserted, InsertPutsFirst, Popped, PopTakesFirst, Appended, AppendPutsTakenFirst, Extended, ExtendPutsAscendingFirst, Released, ReleaseClearsAll, EmptyTells}
 
 -- ---- bits count blocks
 

@@ -1,6 +1,6 @@
 -- Demand 2 for a worker's own list: the exact sequences, in document 01's words. Premises: the page rules hold, and each
 -- list concerned runs over sound addresses to 0; over several lists no block is met twice. No proof stands in this file.
-use Prim.Native.Nat.{ℕ, zero, suc, _+_, _≤_, _<_}
+use Prim.Native.Nat.{ℕ, _+_, _≤_, _<_}
 use mathlib.Core.Path.{_≡_}
 use mathlib.Core.List.{List, [], _∷_, _++_}
 use lib.ListN.{length}
@@ -8,7 +8,7 @@ use Rattle.answers.specs.Numbers.{done}
 use Rattle.answers.specs.Rows.{Outcome}
 use Rattle.bitmap.specs.Bitmap.{bitAt}
 use Rattle.page.specs.Page.{Rules}
-use Rattle.page.specs.Sequences.{times, Once, Apart, upFrom, OthersStay, OthersRun, Runs}
+use Rattle.page.specs.Sequences.{times, Once, upFrom, OthersStay, OthersRun, Runs}
 use Rattle.lists.specs.Lists.{Lists}
 use Rattle.lists.specs.Own.{insertOf, popOf, appendOf, extendOf, releaseOf, emptyOf}
 

@@ -1,16 +1,15 @@
 -- An entry has bw − 1 words, and equal entries compare to as many. Assumes nothing.
-use Prim.Native.Nat.{ℕ, zero, suc, _+_, _-_, _*_, _≤_}
-use mathlib.Core.Path.{_≡_, refl, sym, ap, _∙_}
-use mathlib.Core.Bool.{Bool, true, false, not, _&&_}
+use Prim.Native.Nat.{ℕ, suc, _+_, _-_, _*_, _≤_}
+use mathlib.Core.Path.{_≡_, refl, ap, _∙_}
 use mathlib.Core.List.{List, [], _∷_}
 use native.Mathlib.Omega.{arith}
 use native.Mathlib.Nat.{mul-le-mul-right}
-use lib.ListN.{length, take, drop, length-take, length-drop}
+use lib.ListN.{length, length-take, length-drop}
 use borrow.Author.Tests.{eq-eqb, not-false}
 use Rattle.answers.specs.Numbers.{done}
 use Rattle.answers.specs.Rows.{answer}
 use Rattle.answers.proofs.Rows.{and-left, first-none}
-use Rattle.page.specs.Page.{Lent, Rules, keepsRulesB, workersB, place}
+use Rattle.page.specs.Page.{Lent, Rules, keepsRulesB, workersB}
 use Rattle.page.proofs.Rules.{rules-facts, block-facts}
 use Rattle.machine.specs.Readers.{readsB, entryRefusal, entryOf, equalLeading, compareRefusal, compareOf}
 

@@ -1,12 +1,10 @@
 pub mod Passing
 pub mod GuardArms
 pub mod FreshArms
-pub mod ReaderArms
 pub mod AskArms
 pub mod RequestArms
 pub mod MoveArms
 pub mod ToggleArms
-pub mod EventArms
 pub mod FreshStart
 pub mod Entries
 pub mod Totals

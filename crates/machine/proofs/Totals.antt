@@ -1,14 +1,14 @@
 -- Demand 1, proved: numbers within the table, refusals that change nothing, each number exactly by its row. Assumes nothing.
-use Prim.Native.Nat.{ℕ, zero, suc, _≤_, _<_}
-use mathlib.Core.Path.{_≡_, refl, sym, ap, _∙_, subst}
+use Prim.Native.Nat.{ℕ, zero, suc, _≤_}
+use mathlib.Core.Path.{_≡_, refl, sym}
 use mathlib.Core.Logic.{_≢_, _⊎_, inl, inr, ⊎-elim, _↔_}
-use mathlib.Core.Bool.{Bool, true, false, not, _&&_, _||_, cond, true≢false}
+use mathlib.Core.Bool.{Bool, true, false, not, cond, true≢false}
 use mathlib.Core.List.{List, [], _∷_}
 use native.Mathlib.Omega.{arith}
 use lib.Dec.{eqb, ltb, leb}
-use borrow.Author.Tests.{eqb-true, eqb-false, eq-eqb}
+use borrow.Author.Tests.{eqb-true}
 use Rattle.answers.specs.Numbers.{done, underWay, damaged}
-use Rattle.answers.specs.Rows.{Row, row, first, Outcome, outcome, unless, refused}
+use Rattle.answers.specs.Rows.{Row, first, Outcome, outcome, unless, refused}
 use Rattle.lists.specs.Own.{insertAct, popAct, appendAct, extendAct, releaseAct, emptyAct}
 use Rattle.staged.specs.Operations.{busyB, takeShared, setTag, askTag, loading, writing, exchanging, swapping, maxSightings, stagedB, pushesB, oneOf}
 use Rattle.staged.specs.Start.{startAct}
@@ -16,8 +16,8 @@ use Rattle.staged.specs.Damage.{Turn, headWord, damagedB}
 use Rattle.staged.specs.Moves.{failsB, loadAsk, loadAwait, loadAct, writeAct, exchangeAct, swapAct, maskAct, moveAct}
 use Rattle.words.specs.Tagged.{tagOf}
 use Rattle.lists.specs.Lists.{Lists}
-use Rattle.machine.specs.Config.{Config, workerOf, rulesB, listsOf, starterOf, turnOf, putTurn, over}
-use Rattle.machine.specs.Table.{insert, pop, append, extend, release, table, testsOf, requestRefusal, moveRefusal, onRefusal, offRefusal}
+use Rattle.machine.specs.Config.{Config, workerOf, rulesB, listsOf, turnOf, putTurn, over}
+use Rattle.machine.specs.Table.{insert, pop, append, extend, release, table, requestRefusal, moveRefusal, onRefusal, offRefusal}
 use Rattle.machine.specs.Requests.{atOnceAct, requestAct, requestOf}
 use Rattle.machine.specs.Moves.{moveOf}
 use Rattle.machine.specs.Switch.{withSwitch, switchOnOf, switchOffOf}

@@ -1,27 +1,26 @@
 -- Demand 1, proved: words that are no links, bit 0, bits above n and records from W on never change. Assumes nothing.
-use Prim.Native.Nat.{ℕ, zero, suc, _+_, _≤_, _<_}
-use mathlib.Core.Path.{_≡_, refl, sym, ap, _∙_, subst}
-use mathlib.Core.Logic.{_≢_, _⊎_, inl, inr}
+use Prim.Native.Nat.{ℕ, _+_, _≤_, _<_}
+use mathlib.Core.Path.{_≡_, refl, sym, _∙_, subst}
+use mathlib.Core.Logic.{_≢_}
 use mathlib.Core.Bool.{Bool, true, false, not, _&&_, _||_, cond, true≢false}
 use mathlib.Core.List.{List, [], _∷_}
 use native.Mathlib.Omega.{arith}
-use lib.Dec.{eqb, ltb, leb}
-use lib.ListN.{length, getD, set, length-set}
+use lib.Dec.{eqb, leb}
+use lib.ListN.{getD, set, length-set}
 use lib.Seq.{getD-set-other}
 use borrow.Author.Tests.{eqb-true, eqb-false, ne-eqb, not-false, ltb-true}
-use Rattle.answers.specs.Rows.{row, first, Outcome, outcome, unless}
+use Rattle.answers.specs.Rows.{Outcome, outcome}
 use Rattle.answers.proofs.Rows.{and-left, first-none, unless-either}
-use Rattle.bitmap.specs.Bitmap.{bitAt, bitPut}
+use Rattle.bitmap.specs.Bitmap.{bitPut}
 use Rattle.bitmap.proofs.Bits.{at-put-other, put-length}
-use Rattle.page.specs.Page.{Lent, lent, blockB, listedB, place, blockOf, linkAt, soundIn}
+use Rattle.page.specs.Page.{Lent, lent, blockB, listedB, place, blockOf, soundIn}
 use Rattle.page.specs.Walk.{walkOf}
-use Rattle.page.specs.Keeps.{NoLink, Keeps}
+use Rattle.page.specs.Keeps.{Keeps}
 use Rattle.page.specs.Sequences.{Listed, Runs}
 use Rattle.page.proofs.Rules.{block-facts, run-facts, sound-facts}
 use Rattle.page.proofs.Running.{run-walk}
 use Rattle.page.proofs.Keeping.{keeps-refl, keeps-lent}
-use Rattle.lists.specs.Lists.{Lists}
-use Rattle.lists.specs.Own.{insertAct, popAct, appendAct, extendAct, releaseAct, emptyAct}
+use Rattle.lists.specs.Own.{emptyAct}
 use Rattle.lists.proofs.Kept.{inserted-keeps, popped-keeps, appended-keeps, extended-keeps, released-keeps}
 use Rattle.staged.specs.declared.Worker.{Worker}
 use Rattle.staged.specs.Operations.{pushShared, pushTagged, takeShared, takeTagged, setTag, askTag, awaitTag, loading, writing, exchanging, swapping, maxSightings, stagedB, pushesB, stagesOf, oneOf}
@@ -29,8 +28,8 @@ use Rattle.staged.specs.Start.{startFitsB, startAct}
 use Rattle.staged.specs.Damage.{Turn, headWord, handBad, any, damagedB}
 use Rattle.staged.specs.Moves.{failsB, loadAsk, loadAwait, loadAct, writeAct, exchangeAct, swapAct, maskAct, moveAct}
 use Rattle.words.specs.Tagged.{tagOf, addressOf}
-use Rattle.machine.specs.Config.{Config, lentOf, workerOf, listsOf, starterOf, turnOf, putLists, putStarter, putTurn, over, blank}
-use Rattle.machine.specs.Table.{insert, pop, append, extend, release, argumentsFitB, anyNamed, ownUnsound, linkUnsound, walkBroken, testsOf, requestRefusal, moveRefusal, onRefusal, offRefusal}
+use Rattle.machine.specs.Config.{Config, lentOf, workerOf, listsOf, starterOf, turnOf, putTurn, over, blank}
+use Rattle.machine.specs.Table.{insert, pop, append, extend, release, argumentsFitB, ownUnsound, linkUnsound, walkBroken, testsOf, requestRefusal, moveRefusal, onRefusal, offRefusal}
 use Rattle.machine.specs.Requests.{atOnceAct, requestAct, requestOf}
 use Rattle.machine.specs.Moves.{moveOf}
 use Rattle.machine.specs.Switch.{withSwitch, switchOnOf, switchOffOf}

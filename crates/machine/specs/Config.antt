@@ -1,8 +1,8 @@
 -- A configuration: the state and what the lent slices hold; a worker's part of it, and putting a part back
 -- (document 01, The page).
 use Prim.Native.Nat.{ℕ}
-use mathlib.Core.Bool.{Bool, true, false, not, _&&_, cond}
-use mathlib.Core.List.{List, [], _∷_}
+use mathlib.Core.Bool.{Bool, false, _&&_, cond}
+use mathlib.Core.List.{List}
 use lib.ListN.{length, getD, set, replicate}
 use Rattle.answers.specs.Numbers.{done, badPage}
 use Rattle.answers.specs.Rows.{Outcome, outcome}

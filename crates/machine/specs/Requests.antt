@@ -1,6 +1,6 @@
 -- A request, decided by its number: those that act at once and those that start (document 01, Requests 1 to 13).
 use Prim.Native.Nat.{ℕ}
-use mathlib.Core.Bool.{Bool, true, false, cond}
+use mathlib.Core.Bool.{cond}
 use lib.Dec.{eqb}
 use Rattle.answers.specs.Rows.{Outcome, unless}
 use Rattle.lists.specs.Lists.{Lists}

@@ -1,5 +1,4 @@
 -- T switched on and off (document 01, Requests).
-use Prim.Native.Nat.{ℕ}
 use mathlib.Core.Bool.{Bool, true, false}
 use Rattle.answers.specs.Numbers.{done}
 use Rattle.answers.specs.Rows.{Outcome, outcome, unless}

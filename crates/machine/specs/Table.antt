@@ -2,9 +2,9 @@
 use Prim.Native.Nat.{ℕ, zero, suc}
 use mathlib.Core.Bool.{Bool, true, false, not, _&&_, _||_, cond}
 use mathlib.Core.List.{List, [], _∷_}
-use lib.Dec.{ltb, leb, eqb}
+use lib.Dec.{ltb, eqb}
 use Rattle.answers.specs.Numbers.{badPage, noWorker, noSuch, busy, idle, switched, notEmpty, listed, noneLeft, damaged}
-use Rattle.answers.specs.Rows.{Row, row, first}
+use Rattle.answers.specs.Rows.{row, first}
 use Rattle.words.specs.Tagged.{addressOf}
 use Rattle.bitmap.specs.Bitmap.{anyFrom}
 use Rattle.page.specs.Page.{blockB, runB, listedB, linkAt, soundIn}

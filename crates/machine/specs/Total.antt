@@ -1,8 +1,8 @@
 -- Demand 1: any state, page, bitmap, worker, code and argument gets a defined answer, and a refusal changes nothing. No proof
 -- stands in this file. (A contract that is an equation with a definition permits one answer: uniqueness needs no statement.)
-use Prim.Native.Nat.{ℕ, _≤_, _<_}
+use Prim.Native.Nat.{ℕ, _≤_}
 use mathlib.Core.Path.{_≡_}
-use mathlib.Core.Logic.{_≢_, _⊎_, _↔_}
+use mathlib.Core.Logic.{_⊎_, _↔_}
 use mathlib.Core.Bool.{Bool, true, false, not, _&&_}
 use mathlib.Core.List.{List, [], _∷_}
 use lib.Dec.{eqb, ltb}

@@ -2,16 +2,13 @@
 // 01's numbers, the smallest first, and a refusal changes nothing.
 use staged::Worker;
 
-mod ask;
-pub mod events;
+pub mod ask;
 pub mod fresh;
-mod guards;
-mod happen;
+pub mod guards;
 pub mod moves;
-pub mod readers;
 pub mod request;
 pub mod switch;
-mod toggle;
+pub mod toggle;
 
 // The state: the page's numbers, the shared head, the tagged word and its switch, and eight worker records.
 pub struct State {

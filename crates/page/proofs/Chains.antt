@@ -5,12 +5,11 @@ use mathlib.Core.Logic.{_≢_, _⊎_, inl, inr}
 use mathlib.Core.List.{List, [], _∷_, _++_}
 use Prim.Native.Nat.{ℕ, zero, suc, _+_, _*_, _≤_, _<_}
 use native.Mathlib.Omega.{arith}
-use native.Mathlib.Decide.{ℕ-discrete}
 use lib.ListN.{length, getD, set, length-set, length-append}
 use lib.Seq.{getD-set-same, getD-set-other}
-use Rattle.page.specs.Sequences.{hit, times, Each, Once, Apart, Chain, headOf, laid}
+use Rattle.page.specs.Sequences.{hit, times, Each, Once, Chain, headOf, laid}
 use Rattle.page.specs.Walk.{lastOf}
-use Rattle.page.proofs.Counting.{hit-same, hit-other, hit-is, Split, times-split, times-append, each-head, each-tail, each-append, each-right, last-in}
+use Rattle.page.proofs.Counting.{hit-same, hit-is, Split, times-split, times-append, each-head, each-tail, each-append, each-right, last-in}
 
 module _ (at : ℕ → ℕ) where
   -- the link of block i

@@ -1,9 +1,9 @@
 -- How often a block stands in sequences, by which "exactly one place" is said. Assumes nothing.
-use mathlib.Core.Path.{_≡_, refl, sym, ap, _∙_, subst}
+use mathlib.Core.Path.{_≡_, refl, sym, ap, subst}
 use mathlib.Core.Logic.{_≢_, _⊎_, inl, inr, ⊎-elim}
 use mathlib.Core.Bool.{Bool, true, false}
 use mathlib.Core.List.{List, [], _∷_, _++_}
-use Prim.Native.Nat.{ℕ, zero, suc, _+_, _-_, _≤_, _<_}
+use Prim.Native.Nat.{ℕ, zero, suc, _+_, _≤_, _<_}
 use native.Mathlib.Decide.{decLt}
 use native.Mathlib.Omega.{arith}
 use native.Mathlib.Nat.{le-of-suc-le-suc, not-suc-le-zero}
@@ -11,7 +11,7 @@ use lib.Dec.{eqb}
 use borrow.Author.Tests.{eqb-true, eqb-false}
 use lib.ListN.{length, getD, set}
 use Rattle.page.specs.Walk.{lastOf}
-use Rattle.page.specs.Sequences.{one, hit, times, Each, Once, Apart, upFrom}
+use Rattle.page.specs.Sequences.{one, hit, times, Each, Once, upFrom}
 
 pub hit-is : (i x : ℕ) → ((i ≡ x) × (hit i x ≡ 1)) ⊎ ((i ≢ x) × (hit i x ≡ 0))
 unfolding hit

@@ -1,13 +1,12 @@
 -- What stays: links are written at blocks' places and bits put for blocks 1 to n, and nothing else. Assumes nothing.
 use Prim.Native.Nat.{ℕ, _≤_, _<_}
-use mathlib.Core.Path.{_≡_, refl, ap, _∙_}
-use mathlib.Core.Logic.{_≢_}
+use mathlib.Core.Path.{_≡_, refl}
 use mathlib.Core.List.{List}
 use native.Mathlib.Nat.{mul-le-mul-right}
 use native.Mathlib.Omega.{arith}
 use lib.ListN.{length, getD}
 use Rattle.bitmap.specs.Bitmap.{bitAt}
-use Rattle.page.specs.Page.{Lent, lent, place}
+use Rattle.page.specs.Page.{Lent, lent}
 use Rattle.page.specs.Keeps.{NoLink, Keeps}
 
 pub keeps-refl : (c : Lent) → Keeps c c

@@ -1,5 +1,5 @@
 -- Laws of `Runs`: what a list that runs says of its head, what keeps it running, and blocks laid before it. Assumes nothing.
-use Prim.Native.Nat.{ℕ, zero, suc, _+_, _*_, _/_, _≤_, _<_}
+use Prim.Native.Nat.{ℕ, zero, suc, _+_, _/_, _≤_, _<_}
 use mathlib.Core.Path.{_≡_, refl, sym, ap, _∙_, subst}
 use mathlib.Core.Logic.{_≢_}
 use mathlib.Core.Bool.{Bool, true, false, cond, true≢false}
@@ -14,11 +14,11 @@ use Rattle.bitmap.proofs.Bits.{bit-lt}
 use Rattle.page.specs.declared.Walked.{Walked}
 use Rattle.page.specs.Page.{Lent, lent, Rules, place, addressOf, blockOf, linkAt, soundIn}
 use Rattle.page.specs.Walk.{Walk, ended, broken, then, walkFrom, walkOf, lastOf, tally}
-use Rattle.page.specs.Sequences.{times, Each, Once, Apart, Chain, headOf, laid, Listed, Runs, Stays, OthersStay, OthersRun}
+use Rattle.page.specs.Sequences.{times, Each, Once, Apart, Chain, headOf, laid, Listed, Runs, OthersStay, OthersRun}
 use Rattle.page.proofs.Rules.{block-address, address-place, address-some, place-apart, place-inside, sound-zero, sound-facts, sound-test}
 use Rattle.page.proofs.Steps.{walked}
 use Rattle.page.proofs.Counting.{times-append, each-head, each-tail, each-cons, each-append, last-in, length-le}
-use Rattle.page.proofs.Chains.{Places, linkOf, chain-agree, chain-one, chain-once, chain-laid, chain-append, laid-other}
+use Rattle.page.proofs.Chains.{Places, chain-agree, chain-one, chain-once, chain-laid, chain-append, laid-other}
 
 -- blocks from 1 on start above word 0, at words of their own
 pub places : (bw : ℕ) → 1 ≤ bw → Places (place bw) (λ i. 1 ≤ i)

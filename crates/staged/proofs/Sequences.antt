@@ -1,5 +1,5 @@
 -- Demand 2 for pushes, takes and tags: the statements of `Exact`, proved. Assumes nothing.
-use Prim.Native.Nat.{ℕ, zero, suc, _+_, _*_, _%_, _≤_}
+use Prim.Native.Nat.{ℕ, _+_, _*_}
 use mathlib.Core.Path.{_≡_, refl, sym, ap, _∙_, subst}
 use mathlib.Core.Logic.{_≢_}
 use mathlib.Core.Bool.{Bool, true, false, not, _||_, true≢false}
@@ -7,6 +7,7 @@ use mathlib.Core.List.{List, [], _∷_}
 use native.Mathlib.Omega.{arith}
 use native.Mathlib.Nat.{zero-div}
 use lib.Dec.{eqb}
+use lib.ListN.{set}
 use lib.Seq.{getD-set-same, getD-set-other}
 use borrow.Author.Tests.{eqb-true, eq-eqb, ne-eqb, lt-leb}
 use Rattle.answers.proofs.Rows.{unless-done}
@@ -14,10 +15,11 @@ use Rattle.words.specs.Tagged.{tagOf, addressOf, freeing, noDelayedFree}
 use Rattle.words.proofs.Tagged.{join-address, join-tag, tag-small}
 use Rattle.page.specs.Page.{Lent, Rules, place, blockOf}
 use Rattle.page.specs.Page as page
-use Rattle.page.specs.Sequences.{Listed, Runs}
-use Rattle.page.proofs.Rules.{address-even, place-inside}
-use Rattle.page.proofs.Running.{run-push, run-front}
-use Rattle.staged.specs.Operations.{pushShared, pushTagged, takeShared, setTag, askTag, awaitTag, pushesB, onSharedB, wordOf, begun, loading, exchanging}
+use Rattle.page.specs.Sequences.{times, Runs}
+use Rattle.page.proofs.Counting.{hit-zero}
+use Rattle.page.proofs.Rules.{address-even, place-inside, place-apart}
+use Rattle.page.proofs.Running.{run-push, run-front, others-run}
+use Rattle.staged.specs.Operations.{pushShared, pushTagged, pushesB, onSharedB, wordOf, begun, loading, exchanging}
 use Rattle.staged.specs.Start.{startAct, startRefusal, startOf}
 use Rattle.staged.specs.Damage.{Turn, headWord}
 use Rattle.staged.specs.Moves.{loadAsk, loadAwait, loadAct, writeAct, newWord, exchangeValue, failsB, exchangeAct, swapAct, maskAct, moveAct, moveRefusal, moveOf}
@@ -43,17 +45,25 @@ pub write-links-to-seen : WriteLinksToSeen
 unfolding moveAct writeAct
 write-links-to-seen t flag r st e l =
     let at = place (t .lent .bw) (t .worker .hand) in
+    let to = addressOf (t .worker .seen) in
     rw (acts t flag e, st)
     (record {
       number = refl;
       value = refl;
       stage = refl;
-      link = getD-set-same (t .lent .page) at (addressOf (t .worker .seen)) 0 (place-inside (t .lent) (t .worker .hand) r (l .high));
-      others = λ i n. getD-set-other (t .lent .page) at i (addressOf (t .worker .seen)) 0 n;
+      link = getD-set-same (t .lent .page) at to 0 (place-inside (t .lent) (t .worker .hand) r (l .high));
+      others = λ i n. getD-set-other (t .lent .page) at i to 0 n;
+      lists =
+          others-run (t .lent .n) (t .lent .bw) (t .lent .page) (set (t .lent .page) at to) (t .lent .bits) (t .lent .bits) (t .worker .hand ∷ [])
+          (λ i g z. record { link = getD-set-other (t .lent .page) at (place (t .lent .bw) i) to 0 (apart i z); listed = record { low = g .low; high = g .high; bit = g .bit } });
       bits = refl;
       shared = refl;
       tagged = refl;
     })
+  where
+    -- another block starts at another word
+    apart : (i : ℕ) → times i (t .worker .hand ∷ []) ≡ 0 → place (t .lent .bw) i ≢ place (t .lent .bw) (t .worker .hand)
+    apart i z e = hit-zero i (t .worker .hand) (omega arith) (place-apart (t .lent .bw) i (t .worker .hand) (r .some) e)
 
 -- a failed exchange
 fails : (t : Turn) (flag : Bool) → t .worker .stage ≡ exchanging → moveRefusal t ≡ 0 → failsB (headWord t) (t .worker .seen) flag ≡ true
@@ -97,12 +107,12 @@ exchange-puts-first t xs push st e same runs g free link =
         let op : t .worker .operation ≡ pushShared = eqb-true _ _ p in
         let head : t .shared ≡ t .worker .seen = rw op at same in
         rw (st, op, eq-eqb (t .shared) (t .worker .seen) head)
-        (record { number = refl; hand = refl; value = ap tagOf (sym head); list = list; tag = tag-is ∙ ap tagOf (sym head); lent = refl })
+        (record { number = refl; hand = refl; own = refl; got = refl; other = refl; value = ap tagOf (sym head); list = list; tag = tag-is ∙ ap tagOf (sym head); lent = refl })
     go false p true q f =
         let op : t .worker .operation ≡ pushTagged = eqb-true _ _ q in
         let head : t .tagged ≡ t .worker .seen = rw op at same in
         rw (st, op, eq-eqb (t .tagged) (t .worker .seen) head)
-        (record { number = refl; hand = refl; value = ap tagOf (sym head); list = list; tag = tag-is ∙ ap tagOf (sym head); lent = refl })
+        (record { number = refl; hand = refl; own = refl; got = refl; other = refl; value = ap tagOf (sym head); list = list; tag = tag-is ∙ ap tagOf (sym head); lent = refl })
     go false p false q f = absurd (true≢false (sym f))
 
 -- the front of a list by its head
@@ -117,12 +127,12 @@ take-finds-none t flag op st e z = rw (acts t flag e, st, op, z) (record { numbe
 pub take-yields-shared : TakeYieldsShared
 unfolding moveAct swapAct
 take-yields-shared t flag xs r op st e runs =
-    rw (acts t flag e, st) (record { number = refl; value = head-front (t .lent) r (t .shared) xs runs; got = runs; shared = refl; tagged = refl; lent = refl })
+    rw (acts t flag e, st) (record { number = refl; own = refl; value = head-front (t .lent) r (t .shared) xs runs; got = runs; shared = refl; tagged = refl; lent = refl })
 
 pub take-yields-tagged : TakeYieldsTagged
 unfolding moveAct maskAct
 take-yields-tagged t flag xs r op st e runs =
-    rw (acts t flag e, st) (record { number = refl; value = head-front (t .lent) r (addressOf (t .tagged)) xs runs; got = runs; tagged = refl; shared = refl; lent = refl })
+    rw (acts t flag e, st) (record { number = refl; own = refl; value = head-front (t .lent) r (addressOf (t .tagged)) xs runs; got = runs; tagged = refl; shared = refl; lent = refl })
 
 pub set-puts-tag : SetPutsTag
 unfolding moveAct exchangeAct failsB newWord exchangeValue pushesB onSharedB wordOf

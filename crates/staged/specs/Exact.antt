@@ -12,8 +12,8 @@ use Rattle.answers.specs.Rows.{Outcome}
 use Rattle.words.specs.Tagged.{tagOf, addressOf, freeing, noDelayedFree, useDelayedFree}
 use Rattle.bitmap.specs.Bitmap.{bitPut}
 use Rattle.page.specs.Page.{Rules, place}
-use Rattle.page.specs.Sequences.{times, Listed, Runs}
-use Rattle.staged.specs.Operations.{pushesB, takeShared, takeTagged, setTag, askTag, awaitTag, loading, writing, exchanging, swapping, masking, wordOf}
+use Rattle.page.specs.Sequences.{times, Listed, Runs, OthersRun}
+use Rattle.staged.specs.Operations.{pushesB, onSharedB, takeShared, takeTagged, setTag, askTag, awaitTag, loading, writing, exchanging, swapping, masking, wordOf}
 use Rattle.staged.specs.Start.{Starter, startRefusal, startOf}
 use Rattle.staged.specs.Damage.{Turn, headWord}
 use Rattle.staged.specs.Moves.{moveRefusal, moveOf}
@@ -54,13 +54,15 @@ PushTakesInHand = (n : ℕ) (on : Bool) (c : Starter) (op a : ℕ) → pushesB o
 abbrev pub headAfter : Turn → Outcome Turn → ℕ
 headAfter t o = wordOf (t .worker .operation) (o .after .shared) (o .after .tagged)
 
--- The write gives the block in hand the address part of the word seen for its link, and changes no other word.
+-- The write gives the block in hand the address part of the word seen for its link, and changes no other word: every list that
+-- the block is not on keeps its sequence.
 pub record Linked (t : Turn) (o : Outcome Turn) : Type 0 where
   pub number : o .number ≡ underWay
   pub value : o .value ≡ 0
   pub stage : o .after .worker .stage ≡ exchanging
   pub link : getD (o .after .lent .page) (place (t .lent .bw) (t .worker .hand)) 0 ≡ addressOf (t .worker .seen)
   pub others : (i : ℕ) → (i ≡ place (t .lent .bw) (t .worker .hand) → ⊥) → getD (o .after .lent .page) i 0 ≡ getD (t .lent .page) i 0
+  pub lists : OthersRun (t .lent) (o .after .lent) (t .worker .hand ∷ [])
   pub bits : o .after .lent .bits ≡ t .lent .bits
   pub shared : o .after .shared ≡ t .shared
   pub tagged : o .after .tagged ≡ t .tagged
@@ -92,10 +94,18 @@ abbrev pub OtherWordFails : Type 0
 OtherWordFails =
     (t : Turn) (flag : Bool) → t .worker .stage ≡ exchanging → moveRefusal t ≡ 0 → (headWord t ≡ t .worker .seen → ⊥) → OnlyStage t loading (moveOf t flag)
 
--- A successful exchange puts the block in hand at the front, tag kept; no page word and no bit changes, and the hand is empty.
+-- the other head word
+abbrev pub otherHead : Turn → Turn → ℕ
+otherHead t u = cond (onSharedB (t .worker .operation)) (u .tagged) (u .shared)
+
+-- A successful exchange puts the block in hand at the front, tag kept, and the hand is empty; no page word, no bit and no other
+-- head changes, so every other list keeps its sequence.
 pub record Pushed (t : Turn) (xs : List ℕ) (o : Outcome Turn) : Type 0 where
   pub number : o .number ≡ done
   pub hand : o .after .worker .hand ≡ 0
+  pub own : o .after .worker .own ≡ t .worker .own
+  pub got : o .after .worker .got ≡ t .worker .got
+  pub other : otherHead t (o .after) ≡ otherHead t t
   pub value : o .value ≡ tagOf (headWord t)
   pub list : Runs (o .after .lent) (addressOf (headAfter t o)) (t .worker .hand ∷ xs)
   pub tag : tagOf (headAfter t o) ≡ tagOf (headWord t)
@@ -123,6 +133,7 @@ TakeFindsNone =
 -- A take of S yields the whole list and leaves S empty.
 pub record SharedTaken (t : Turn) (xs : List ℕ) (o : Outcome Turn) : Type 0 where
   pub number : o .number ≡ done
+  pub own : o .after .worker .own ≡ t .worker .own
   pub value : o .value ≡ front xs
   pub got : Runs (o .after .lent) (o .after .worker .got) xs
   pub shared : o .after .shared ≡ 0
@@ -137,6 +148,7 @@ TakeYieldsShared =
 -- A take of T yields the whole list and keeps the tag.
 pub record TaggedTaken (t : Turn) (xs : List ℕ) (o : Outcome Turn) : Type 0 where
   pub number : o .number ≡ done
+  pub own : o .after .worker .own ≡ t .worker .own
   pub value : o .value ≡ front xs
   pub got : Runs (o .after .lent) (o .after .worker .got) xs
   pub tagged : o .after .tagged ≡ tagOf (t .tagged)

@@ -7,12 +7,12 @@ use lib.ListN.{length, take, getD, replicate, length-take}
 use lib.Seq.{getD-take}
 use Rattle.answers.specs.Rows.{Outcome}
 use Rattle.records.specs.declared.Filled.{Filled}
-use Rattle.records.specs.Fill.{Filling, fillOf}
+use Rattle.records.specs.Fill.{fillOf}
 use Rattle.records.specs.Fill as fill
 use Rattle.records.proofs.Filling.{Holds, fill-holds}
 use Rattle.machine.specs.declared.Reply.{Reply}
 use Rattle.machine.specs.Config.{Config, came, freshOf}
-use Rattle.machine.specs.Events.{eventWords, Run, ran, cameRun, eventsOf}
+use Rattle.machine.specs.Events.{eventWords, Run, ran, eventsOf}
 use Rattle.table_check.specs.Runs.{fromFresh, runOf}
 
 -- the words of the records are within the room

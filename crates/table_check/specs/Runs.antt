@@ -1,5 +1,5 @@
 -- A run of records on a fresh page of 63 blocks of 4 words, with eight workers (document 01, Checked by hand).
-use Prim.Native.Nat.{ℕ, _*_, _/_}
+use Prim.Native.Nat.{ℕ, _*_}
 use mathlib.Core.Path.{_≡_}
 use mathlib.Core.List.{List}
 use lib.ListN.{length, take, replicate}

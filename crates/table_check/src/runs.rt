@@ -5,8 +5,8 @@ ghost use Prim.Native.Nat.{_<_};
 ghost use lib.ListN.{length, getD, take};
 ghost use Rattle.machine.specs.Events.{cameRun};
 ghost use Rattle.table_check.specs.Runs.{runOf, zerosRun, Answers};
+use events::EVENT_WORDS;
 use machine::Reply;
-use machine::events::EVENT_WORDS;
 
 // The page of document 01's table: n, bw, W, and the words of page and bitmap.
 const BLOCKS: u64 = 63;
@@ -33,7 +33,7 @@ fn run(records: &[u8], page: &mut [u64], bits: &mut [u64], answers: &mut [u64]) 
     let used = EVENT_WORDS * (filled.records as usize);
     let start = machine::fresh::fresh(BLOCKS, BLOCK_WORDS, WORKERS, page, &mut *bits);
     let state = start.state;
-    machine::events::events(state, page, bits, &words[..used], answers)
+    events::events(state, page, bits, &words[..used], answers)
 }
 
 // Whether words begin with these bytes.

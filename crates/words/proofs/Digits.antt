@@ -1,9 +1,9 @@
 -- Laws of one binary digit of a number. Assumes nothing.
-use mathlib.Core.Path.{_≡_, refl, sym, ap, ap₂, _∙_, subst}
+use mathlib.Core.Path.{_≡_, sym, ap, ap₂, _∙_, subst}
 use mathlib.Core.Logic.{_≢_}
-use Prim.Native.Nat.{ℕ, zero, suc, _+_, _-_, _*_, _/_, _%_, _^_, _≤_, _<_, suc-le-suc}
-use native.Mathlib.Nat.{mod-lt, pow-suc, div-one, zero-lt-suc, add-mul, div-lt-iff-lt-mul, sub-add-cancel, add-sub-of-le, add-comm}
-use native.Mathlib.Numerals.{add-one, one-add}
+use Prim.Native.Nat.{ℕ, zero, suc, _+_, _-_, _*_, _/_, _%_, _^_, _<_, suc-le-suc}
+use native.Mathlib.Nat.{mod-lt, pow-suc, div-one, zero-lt-suc, add-mul, div-lt-iff-lt-mul}
+use native.Mathlib.Numerals.{one-add}
 use native.Mathlib.Decide.{decLt}
 use native.Mathlib.Omega.{arith}
 use lib.Pow.{pow-pos, split, high, low, shr-shr, field, mod-mod-pow, pow-add, shr-lt}

@@ -1,6 +1,6 @@
 -- A tagged word is an address, a multiple of 4, plus a tag of 0 to 3 (document 01, The page).
 use Prim.Native.Nat.{ℕ, _+_, _-_, _%_}
-use mathlib.Core.Bool.{Bool, true, false, cond}
+use mathlib.Core.Bool.{cond}
 use lib.Dec.{eqb, leb}
 use Rattle.answers.specs.declared.Answer.{Answer}
 use Rattle.answers.specs.Numbers.{done, noSuch}

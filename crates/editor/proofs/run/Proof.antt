@@ -1,6 +1,5 @@
 -- `editor::run` is safe and ends. The invariant: every slice keeps its length; the measure: the reads that are left.
 -- Assumes nothing.
-use Prim.Native.Nat.{ℕ}
 use mathlib.Core.Path.{_≡_, refl, _∙_}
 use native.Mathlib.Omega.{arith}
 use lib.ListN.{length}

@@ -1,10 +1,8 @@
 -- `words::masked_ptr_delay_set_delay` meets its contract. Assumes nothing.
 use mathlib.Core.Path.{_∙_, sym, ap}
 use native.Mathlib.Omega.{arith}
-use borrow.Author.Tests.{le-leb, lt-leb}
 use Rattle.answers.specs.Numbers.{done}
 use Rattle.answers.specs.Rows.{answer}
-use Rattle.words.specs.Tagged.{setDelayOf}
 use Rattle.words.proofs.Masks.{address-or}
 use Rattle.words.proofs.Tagged.{set-delay, no-delay}
 use Rattle.words.proofs.masked_ptr_delay_set_delay.Statement.{statement}

@@ -2,7 +2,6 @@
 use Prim.Native.Nat.{_*_, _-_, _≤_}
 use mathlib.Core.Path.{_≡_}
 use native.Mathlib.Omega.{arith}
-use borrow.Author.Needs.{needs}
 use Rattle.editor.proofs.Writing.{wrote-no-line, wrote-line}
 use Rattle.editor.specs.Text.{Wrote, linesText}
 use Rattle.editor.proofs.text.lines.Statement.{statement}

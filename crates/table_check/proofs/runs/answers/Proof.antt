@@ -1,12 +1,11 @@
 -- `table_check::runs::answers` meets its contract: the count and each answer are those of the run over zeros. Assumes nothing.
-use Prim.Native.Nat.{ℕ}
 use mathlib.Core.Path.{ap, _∙_}
 use native.Mathlib.Omega.{arith}
 use lib.ListN.{length, take}
 use borrow.Author.Needs.{needs}
 use Rattle.answers.specs.Rows.{Outcome}
 use Rattle.machine.specs.Events.{Run}
-use Rattle.table_check.specs.Runs.{zerosRun, Answers}
+use Rattle.table_check.specs.Runs.{zerosRun}
 use Rattle.table_check.proofs.runs.answers.Statement.{statement}
 use Rattle.table_check.proofs.runs.answers.Tie as tie
 

@@ -1,7 +1,7 @@
 -- `table_check::runs::begins` meets its contract: a word that differs, or words that are too few, rule the equation out.
 -- Assumes nothing.
 use Prim.Native.Nat.{_≤_, _-_}
-use mathlib.Core.Path.{refl, sym, ap, _∙_}
+use mathlib.Core.Path.{refl}
 use native.Mathlib.Omega.{arith}
 use lib.ListN.{length}
 use Rattle.table_check.proofs.Running.{too-few, differs}
