@@ -1,6 +1,6 @@
 -- Demand 1, proved: numbers within the table, refusals that change nothing, each number exactly by its row. Assumes nothing.
 use Prim.Native.Nat.{ℕ, zero, suc, _≤_}
-use mathlib.Core.Path.{_≡_, refl, sym}
+use mathlib.Core.Path.{_≡_, refl, sym, _∙_}
 use mathlib.Core.Logic.{_≢_, _⊎_, inl, inr, ⊎-elim, _↔_}
 use mathlib.Core.Bool.{Bool, true, false, not, cond, true≢false}
 use mathlib.Core.List.{List, [], _∷_}
@@ -21,9 +21,12 @@ use Rattle.machine.specs.Table.{insert, pop, append, extend, release, ta
 use Rattle.machine.specs.Requests.{atOnceAct, requestAct, requestOf}
 use Rattle.machine.specs.Moves.{moveOf}
 use Rattle.machine.specs.Switch.{withSwitch, switchOnOf, switchOffOf}
-use Rattle.machine.specs.Total.{Answered, AllAnswered, MoveNumbers, FirstAt, requestRows, moveRows, onRows, offRows, ExactlyByRows}
+use Rattle.machine.specs.Total.{OneAnswer, Answered, AllAnswered, MoveNumbers, FirstAt, requestRows, moveRows, onRows, offRows, ExactlyByRows}
 
 -- ---- rows
+
+pub one-answer : OneAnswer
+one-answer A d x y p q = p ∙ sym q
 
 -- a number that is not 0 is given exactly if its row applies and none above does
 first-exactly : (k : ℕ) (rows : List Row) → k ≢ 0 → (first rows ≡ k) ↔ FirstAt k rows

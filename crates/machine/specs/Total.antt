@@ -1,5 +1,5 @@
 -- Demand 1: any state, page, bitmap, worker, code and argument gets a defined answer, and a refusal changes nothing. No proof
--- stands in this file. (A contract that is an equation with a definition permits one answer: uniqueness needs no statement.)
+-- stands in this file.
 use Prim.Native.Nat.{ℕ, _≤_}
 use mathlib.Core.Path.{_≡_}
 use mathlib.Core.Logic.{_⊎_, _↔_}
@@ -18,6 +18,10 @@ use Rattle.machine.specs.Table.{pop, testsOf, anyBusy}
 use Rattle.machine.specs.Requests.{requestOf}
 use Rattle.machine.specs.Moves.{moveOf}
 use Rattle.machine.specs.Switch.{switchOnOf, switchOffOf}
+
+-- a contract that is an equation with a definition permits one answer: two that meet it are equal
+abbrev pub OneAnswer : Type 1
+OneAnswer = (A : Type 0) (definition x y : A) → x ≡ definition → y ≡ definition → x ≡ y
 
 -- the number is one of the table's; from 2 up the value is 0 and everything stays as it was
 pub record Answered (c : Config) (o : Outcome Config) : Type 0 where
