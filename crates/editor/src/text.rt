@@ -1,6 +1,6 @@
 // Answers as text: a line for each, number, space, value. What a function writes is a definition of `specs/Text`.
 ghost use Prim.Native.Nat.{_+_, _*_, _≤_};
-ghost use lib.ListN.{length, take};
+ghost use lib.ListN.{length};
 ghost use Rattle.editor.specs.Text.{Wrote, numberText, lineText, linesText, badText, chunkText};
 
 // The most digits of a number of 64 bits.

@@ -1,11 +1,10 @@
 -- One worker's part of a request, and T's switch: its record, the head words, the switch and what is lent. The page rules are
 -- tested before.
-use Prim.Native.Nat.{ℕ, _+_, _*_}
-use mathlib.Core.Bool.{Bool, true, false, not, _&&_, _||_, cond}
+use Prim.Native.Nat.{ℕ}
+use mathlib.Core.Bool.{Bool, true, false, not, cond}
 use mathlib.Core.List.{List}
-use lib.Dec.{ltb, eqb}
-use lib.ListN.{getD}
-use Rattle.answers.specs.Numbers.{done, noWorker, noSuch, busy, switched, notEmpty}
+use lib.Dec.{eqb}
+use Rattle.answers.specs.Numbers.{done, noSuch, busy, switched, notEmpty}
 use Rattle.answers.specs.Rows.{Outcome, outcome, refused}
 use Rattle.words.specs.Tagged.{tagOf, addressOf}
 use Rattle.page.specs.Page.{Lent, lent}
@@ -15,12 +14,11 @@ use Rattle.staged.specs.declared.Worker.{Worker}
 use Rattle.staged.specs.Operations.{stagedB, busyB}
 use Rattle.staged.specs.Start.{Starter, starter, startOf}
 use Rattle.staged.specs.Damage.{Turn, turn}
-use Rattle.staged.specs.Moves.{moveOf}
 use Rattle.machine.specs.declared.ask.Asked.{Asked}
 use Rattle.machine.specs.declared.toggle.Toggled.{Toggled}
 use Rattle.machine.specs.Config.{Config, config, workerOf, lentOf, putWorker, withHeads}
 use Rattle.machine.specs.Table.{insert, pop, append, extend, release, argumentsFitB}
-use Rattle.machine.specs.Events.{eventWords, aRequest, aMove, turnsOn, turnsOff, flagOf}
+use Rattle.machine.specs.Events.{turnsOn, turnsOff}
 
 -- what a request may change: the worker's record, and what the slices hold
 pub record Asker : Type 0 where
