@@ -1,8 +1,10 @@
 -- A worker's part of a request by the outcomes of its tests: the laws that every return of `ask` cites. Assumes nothing.
 use Prim.Native.Nat.{ℕ, _≤_, _<_}
 use mathlib.Core.Path.{_≡_, refl, sym, ap}
+use mathlib.Core.Logic.{_⊎_, ⊎-elim}
 use mathlib.Core.Bool.{Bool, true, false, not, _&&_, _||_, cond}
 use mathlib.Core.List.{List}
+use native.Mathlib.Omega.{arith}
 use lib.Dec.{leb, eqb}
 use borrow.Author.Tests.{le-leb, lt-leb, ne-eqb}
 use Rattle.answers.specs.Numbers.{noSuch, busy}
@@ -68,6 +70,23 @@ above-staged code p = go (leb pushShared code)
     go : (v : Bool) → (v && leb code awaitTag) ≡ false
     go true = lt-leb _ _ p
     go false = refl
+
+-- a code that is none of 1 to 13
+pub ask-none : (on : Bool) (x : Asker) (code a b : ℕ) → (code < insert) ⊎ (askEmpty < code) → refused noSuch x ≡ askOf on x code a b
+unfolding askOf askListsOf argumentsFitB
+ask-none on x code a b out =
+    simp (
+      ⊎-elim (λ l. below-staged code (omega arith)) (λ l. above-staged code (omega arith)) out,
+      ne-eqb code insert (other insert (omega arith) (omega arith)),
+      ne-eqb code pop (other pop (omega arith) (omega arith)),
+      ne-eqb code append (other append (omega arith) (omega arith)),
+      ne-eqb code extend (other extend (omega arith) (omega arith)),
+      ne-eqb code release (other release (omega arith) (omega arith)),
+      ne-eqb code askEmpty (other askEmpty (omega arith) (omega arith)),
+    )
+  where
+    other : (m : ℕ) → insert ≤ m → m ≤ askEmpty → code ≡ m → ⊥
+    other m p q e = ⊎-elim (λ l. omega arith) (λ l. omega arith) out
 
 -- what came, by the record given back
 pub answered-by : {n bw : ℕ} {r s : Asked} {page bits : List ℕ} → r ≡ s → answered n bw r page bits ≡ answered n bw s page bits

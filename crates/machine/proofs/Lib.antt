@@ -9,3 +9,4 @@ pub mod FreshStart
 pub mod Entries
 pub mod Totals
 pub mod Unchanged
+pub mod Leaving

@@ -154,7 +154,7 @@ module _ (c : Config) (w code a b : ℕ) (p : Passed code (testsOf c w code a b)
 -- ---- moves
 
 -- whichever a test picks
-pick : (P : Outcome Turn → Type 0) (b : Bool) (x y : Outcome Turn) → P x → P y → P (cond b x y)
+pub pick : (P : Outcome Turn → Type 0) (b : Bool) (x y : Outcome Turn) → P x → P y → P (cond b x y)
 pick P true x y p q = p
 pick P false x y p q = q
 

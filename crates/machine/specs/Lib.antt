@@ -7,3 +7,4 @@ pub mod Parts
 pub mod Readers
 pub mod Events
 pub mod Total
+pub mod Leaves

@@ -140,7 +140,7 @@ fn give(number: u64, value: u64, worker: Worker) -> Asked
     }
 }
 
-// A request: an operation's start, or one on own and got.
+// A request, decided by its code: 1 to 5 and 13 act at once, 6 to 12 start, and there is no other.
 pub fn ask(
     k: Worker,
     n: u64,
@@ -155,14 +155,15 @@ pub fn ask(
     ensures { λ r. ⌜ answered n bw r (now (page .exit)) (now (bits .exit)) ≡ askOf on (asker k (lent n bw (now (page .entry)) (now (bits .entry)))) code a b ⌝ }
 {
     match code {
+        INSERT..=RELEASE | ASK_EMPTY => {
+            let r = ask_lists(k, n, bw, page, bits, code, a, b);
+            give(r.number, r.value, with_heads(k, r.own, r.got))
+        }
         PUSH_SHARED..=AWAIT_TAG => {
             let r = start(k, n, on, bits, code, a);
             let worker = r.worker;
             give(r.number, r.value, worker)
         }
-        _ => {
-            let r = ask_lists(k, n, bw, page, bits, code, a, b);
-            give(r.number, r.value, with_heads(k, r.own, r.got))
-        }
+        _ => give(NO_SUCH, 0, k),
     }
 }
