@@ -124,7 +124,7 @@ pub record Change (c : Config) (s : Simple) (w : ℕ) (x : Next) : Type 0 where
   pub shared : Runs (nextLent c x) (x .shared) (x .sharedList)
   pub tagged : Runs (nextLent c x) (addressOf (x .tagged)) (x .taggedList)
   pub tag : tagOf (x .tagged) ≡ x .tag
-  pub off : s .on ≡ false → x .taggedList ≡ []
+  pub off : s .on ≡ false → (x .taggedList ≡ []) × (x .tag ≡ 0)
   pub mine : Fits (nextLent c x) (c .state .on) (x .worker) (x .hands)
   pub others : (u : ℕ) → u < c .state .w → u ≢ w → Fits (nextLent c x) (c .state .on) (workerOf c u) (handsOf s u)
   -- what came and went, block by block

@@ -67,7 +67,7 @@ fresh-stands n bw w page bits e = go (keepsRulesB (lent n bw page bits)) refl (w
           tagged = run-none _;
           tag = refl;
           on = refl;
-          off = λ z. refl;
+          off = λ z. (refl, refl);
           each = λ u l. rw (repeated maxWorkers u blank, repeated w u still) (record { own = run-none _; got = run-none _; doing = resting refl refl refl });
           once = λ i lo hi. omega (arith, still-sum i w, zeroed-clear (length bits) i);
           within = λ i b. absurd (omega (arith, still-sum i w));

@@ -203,7 +203,7 @@ module _ (c : Config) (s : Simple) (m : Sim c s) (w : ℕ) (l : w < c .state .w)
       rw (op, st, note)
       (record {
         sim = turn-changes c s m w l _ (c .state .shared) (tagOf (c .state .tagged)) (s .shared) [] (s .tag) (holds mine (s .tagged)) (m .shared)
-            (subst (λ (h : ℕ). Runs (lentOf c) h []) (omega arith) (run-none (lentOf c))) (omega (arith, m .tag)) (λ f. refl)
+            (subst (λ (h : ℕ). Runs (lentOf c) h []) (omega arith) (run-none (lentOf c))) (omega (arith, m .tag)) (λ f. (refl, m .off f .1))
             (record { own = m .each w l .own; got = m .tagged; doing = resting refl refl refl })
             (λ i. omega (arith, ap (times i) hand, ap (times i) none));
         number = refl;

@@ -11,10 +11,12 @@ use borrow.Author.Tests.{eqb-true, eqb-false, eq-eqb}
 use Rattle.answers.specs.Numbers.{done, noneLeft}
 use Rattle.answers.specs.Rows.{first, answer}
 use Rattle.answers.specs.declared.Answer.{Answer}
+use Rattle.words.specs.Tagged.{addressOf}
+use Rattle.words.proofs.Tagged.{split-join}
 use Rattle.bitmap.specs.Bitmap.{bitAt, listedCount, firstUnlisted}
 use Rattle.bitmap.proofs.Trailing.{Smallest, first-found, first-none}
 use Rattle.page.specs.Page.{listedB}
-use Rattle.page.specs.Sequences.{times}
+use Rattle.page.specs.Sequences.{times, Runs}
 use Rattle.page.proofs.Rules.{rules-test, workers-test, block-test}
 use Rattle.page.proofs.Counting.{times-append, total, total-length, length-le}
 use Rattle.machine.specs.Config.{Config, lentOf}
@@ -141,11 +143,19 @@ module _ (c : Config) (s : Simple) (m : Sim c s) where
       go true q = rw q (λ z. absurd (omega arith), λ z. absurd (omega (arith, m .once i lo hi, eqb-true (bitAt (c .bits) i) 1 q)))
       go false q = rw q (λ z. omega (arith, m .once i lo hi, one-place c s m i, eqb-false (bitAt (c .bits) i) 1 q), λ z. refl)
 
+-- a word with no address part and no tag is 0
+null-while-off : (c : Config) (s : Simple) → Sim c s → c .state .on ≡ false → c .state .tagged ≡ 0
+null-while-off c s m off =
+    let empty = m .off (sym (m .on) ∙ off) in
+    let none : addressOf (c .state .tagged) ≡ 0 = subst (λ (xs : List ℕ). Runs (lentOf c) (addressOf (c .state .tagged)) xs) (empty .0) (m .tagged) .chain in
+    sym (split-join (c .state .tagged)) ∙ omega (arith, none, m .tag ∙ empty .1)
+
 pub what-stands : WhatStands
 what-stands c s m =
     record {
       place = one-place c s m;
       bits = bits-number c s m;
+      null = null-while-off c s m;
       bound = own-got-bound c s m;
       count = count-told c s m;
       first = first-is c s m;

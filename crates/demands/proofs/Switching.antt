@@ -86,7 +86,7 @@ module _ (c : Config) (s : Simple) (m : Sim c s) where
         tagged = run-none (lentOf c);
         tag = refl;
         on = refl;
-        off = λ f. refl;
+        off = λ f. (refl, refl);
         each = λ w l. record { own = m .each w l .own; got = m .each w l .got; doing = doing w l };
         once = λ i lo hi. omega (arith, m .once i lo hi, ap (times i) empty);
         within = λ i b. m .within i (omega (arith, ap (times i) empty));
@@ -107,7 +107,7 @@ module _ (c : Config) (s : Simple) (m : Sim c s) where
           let off : s .on ≡ false = first-none _ _ _ (omega arith) (e ∙ eqb-true k 0 q) .0 in
           rw q
           (record {
-            sim = switch-changes true (m .off off) (λ w l. turned-on (lentOf c) (workerOf c w) (handsOf s w) (subst (λ (o : Bool). Doing (lentOf c) o (workerOf c w) (handsOf s w)) (m .on ∙ off) (m .each w l .doing)));
+            sim = switch-changes true (m .off off .0) (λ w l. turned-on (lentOf c) (workerOf c w) (handsOf s w) (subst (λ (o : Bool). Doing (lentOf c) o (workerOf c w) (handsOf s w)) (m .on ∙ off) (m .each w l .doing)));
             number = refl;
             value = refl;
           })

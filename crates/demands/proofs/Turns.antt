@@ -26,7 +26,7 @@ module _ (c : Config) (s : Simple) (m : Sim c s) (w : ℕ) (l : w < c .state .w)
 
   -- another record, other head words and sequences, on the same page and bitmap
   pub turn-changes : (k : Worker) (shared tagged : ℕ) (xs ys : List ℕ) (tag : ℕ) (t : Hands)
-      → Runs (lentOf c) shared xs → Runs (lentOf c) (addressOf tagged) ys → tagOf tagged ≡ tag → (s .on ≡ false → ys ≡ [])
+      → Runs (lentOf c) shared xs → Runs (lentOf c) (addressOf tagged) ys → tagOf tagged ≡ tag → (s .on ≡ false → (ys ≡ []) × (tag ≡ 0))
       → Fits (lentOf c) (c .state .on) k t
       → ((i : ℕ) → times i xs + times i ys + heldBy i t ≡ times i (s .shared) + times i (s .tagged) + heldBy i mine)
       → Sim (config (stateOf (c .state .n) (c .state .bw) (c .state .w) shared tagged (c .state .on) (set (c .state .workers) w k)) (c .page) (c .bits))

@@ -139,6 +139,8 @@ pub record Stands (c : Config) (s : Simple) : Type 0 where
   pub place : (i : ℕ) → timesIn i s ≤ 1
   -- set bits number the sum of all sequence lengths and full hands
   pub bits : listedCount (c .bits) (c .state .n) ≡ blocksIn s
+  -- T is 0 while it is off
+  pub null : c .state .on ≡ false → c .state .tagged ≡ 0
   -- own and got together have at most n
   pub bound : (w : ℕ) → w < c .state .w → length (handsOf s w .own) + length (handsOf s w .got) ≤ c .state .n
   -- the listed count is that sum

@@ -60,7 +60,7 @@ pub record Sim (c : Config) (s : Simple) : Type 0 where
   pub tagged : Runs (lentOf c) (addressOf (c .state .tagged)) (s .tagged)
   pub tag : tagOf (c .state .tagged) ≡ s .tag
   pub on : c .state .on ≡ s .on
-  pub off : s .on ≡ false → s .tagged ≡ []
+  pub off : s .on ≡ false → (s .tagged ≡ []) × (s .tag ≡ 0)
   pub each : (w : ℕ) → w < c .state .w → Fits (lentOf c) (c .state .on) (workerOf c w) (handsOf s w)
   -- each block is with its caller, in one hand, or once on one list: the bits tell
   pub once : (i : ℕ) → 1 ≤ i → i ≤ c .state .n → timesIn i s ≡ bitAt (c .bits) i
