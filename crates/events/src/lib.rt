@@ -91,10 +91,7 @@ fn run(
             put(&mut *answers, j, r.number, r.value);
             continue;
         }
-        let mut any = false;
-        if e.kind == TURNS_OFF {
-            any = any_busy(s);
-        }
+        let any = e.kind == TURNS_OFF && any_busy(s);
         let r = happen(
             q,
             s.w,
