@@ -25,6 +25,8 @@ sys.path.insert(0, os.path.dirname(os.path.abspath(__file__)))
 import second_reading as reading
 
 PATIENCE = 300
+# Starts a program for x86-64 on any machine.
+START = os.path.join(os.path.dirname(os.path.abspath(__file__)), "start")
 
 
 # ---- running the program
@@ -32,9 +34,9 @@ PATIENCE = 300
 def run(program, stream, pieces=None, pause=0.0):
     """What the program writes. With pieces, its input comes in parts of these lengths, a pause after each."""
     if pieces is None:
-        ended = subprocess.run([program], input=stream, stdout=subprocess.PIPE, timeout=PATIENCE)
+        ended = subprocess.run([START, program], input=stream, stdout=subprocess.PIPE, timeout=PATIENCE)
         return ended.stdout, ended.returncode
-    process = subprocess.Popen([program], stdin=subprocess.PIPE, stdout=subprocess.PIPE, bufsize=0)
+    process = subprocess.Popen([START, program], stdin=subprocess.PIPE, stdout=subprocess.PIPE, bufsize=0)
 
     def feed():
         at = 0
@@ -274,6 +276,8 @@ def main():
     parser.add_argument("--keep", default="difference.bin")
     chosen = parser.parse_args()
     program = os.path.abspath(chosen.program)
+    if not os.access(program, os.X_OK):
+        sys.exit("streams: no program %s; 'rt check editor' makes target/bin/editor" % program)
     compared, waiting, found = 0, set(), None
     source = cases(chosen.count, chosen.seed, chosen.records)
     with concurrent.futures.ThreadPoolExecutor(chosen.jobs) as pool:
@@ -296,7 +300,7 @@ def main():
         with open(chosen.keep, "wb") as kept:
             kept.write(stream)
         print("%s: %s; the stream is in %s" % (label, what, chosen.keep))
-        print("streams: %d compared, 1 differ" % compared)
+        print("streams: %d compared, 1 differs" % compared)
         sys.exit(1)
     print("streams: %d compared, 0 differ" % compared)
 

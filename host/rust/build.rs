@@ -13,6 +13,11 @@ fn main() {
             .join("../../target/staticlib/libhost.a"),
     };
     println!("cargo:rerun-if-changed={}", archive.display());
+    let machine = env::var("CARGO_CFG_TARGET_ARCH").expect("cargo sets CARGO_CFG_TARGET_ARCH");
+    if machine != "x86_64" {
+        eprintln!("albmerik: the archive is for x86-64 and cannot be linked for {machine}");
+        exit(1);
+    }
     let Ok(found) = archive.canonicalize() else {
         eprintln!(
             "albmerik: no archive {}: make it with 'rt staticlib host' in the repository's root, or name one as ALBMERIK_ARCHIVE",

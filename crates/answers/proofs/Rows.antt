@@ -29,6 +29,12 @@ all-at [] i e = refl
 all-at (b ∷ l) zero e = and-left b (all l) e
 all-at (b ∷ l) (suc i) e = all-at l i (and-right b (all l) e)
 
+-- two tests that give each other are one
+pub agrees : (p q : Bool) → (p ≡ true → q ≡ true) → (q ≡ true → p ≡ true) → p ≡ q
+agrees true q f g = sym (f refl)
+agrees false true f g = absurd (true≢false (sym (g refl)))
+agrees false false f g = refl
+
 -- what a call's promise and the test of its result say of the promised value
 pub by : {r b v : Bool} → r ≡ b → r ≡ v → b ≡ v
 by p q = sym p ∙ q

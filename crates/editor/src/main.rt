@@ -131,15 +131,9 @@ fn turn(
 
 // Whether more is to be read: the text was written, all bytes were records, and they filled their room.
 fn goes_on(written: bool, whole: bool, got: usize, room: usize) -> bool
-    ensures { λ r. ⌜ r ≡ (written && (whole && eqb got room)) ⌝ }
+    ensures { λ r. ⌜ r ≡ ((written && whole) && eqb got room) ⌝ }
 {
-    if !written {
-        return false;
-    }
-    if !whole {
-        return false;
-    }
-    got == room
+    written && whole && got == room
 }
 
 // Decodes the records of some bytes and lets their events happen, with each one's answer in its place.

@@ -57,20 +57,14 @@ fn give(number: u64, value: u64, shared: u64, tagged: u64, on: bool, worker: Wor
 fn by_worker(kind: u64) -> bool
     ensures { λ r. ⌜ r ≡ byWorkerB kind ⌝ }
 {
-    if kind == A_REQUEST {
-        return true;
-    }
-    kind == A_MOVE
+    kind == A_REQUEST || kind == A_MOVE
 }
 
 // Whether an event is a request of one of the workers that is none of 6 to 12.
 pub fn is_quick(e: Event, workers: u64) -> bool
     ensures { λ r. ⌜ r ≡ quickB workers e ⌝ }
 {
-    if e.kind != A_REQUEST {
-        return false;
-    }
-    if workers <= e.worker {
+    if e.kind != A_REQUEST || workers <= e.worker {
         return false;
     }
     !is_staged(e.code)

@@ -17,10 +17,7 @@ const RECORDS: usize = 8;
 pub fn rules(n: u64, bw: u64, w: u64, page_words: usize, bits_words: usize) -> bool
     ensures { λ r. ⌜ r ≡ (fitsB n bw «page_words» «bits_words» && workersB w) ⌝ }
 {
-    if !fits(n, bw, page_words, bits_words) {
-        return false;
-    }
-    workers_fit(w)
+    fits(n, bw, page_words, bits_words) && workers_fit(w)
 }
 
 // Whether any of the first W workers has an operation under way.

@@ -1,6 +1,6 @@
 -- Laws of the page: a test that is true gives its facts, its facts give the test, and block and address lead to each other.
 -- Assumes nothing.
-use Prim.Native.Nat.{ℕ, _+_, _*_, _/_, _%_, _≤_, _<_}
+use Prim.Native.Nat.{ℕ, _+_, _-_, _*_, _/_, _%_, _≤_, _<_}
 use mathlib.Core.Path.{_≡_, refl, sym, ap, _∙_}
 use mathlib.Core.Logic.{_≢_, _↔_}
 use mathlib.Core.Bool.{Bool, true, false, _&&_, cond, true≢false}
@@ -11,7 +11,7 @@ use lib.Dec.{leb, eqb}
 use lib.ListN.{length}
 use borrow.Author.Tests.{leb-true, eqb-true, le-leb, eq-eqb, ne-eqb}
 use Rattle.answers.specs.Rows.{all}
-use Rattle.answers.proofs.Rows.{refuted, and-left, and-right, all-at}
+use Rattle.answers.proofs.Rows.{refuted, agrees, and-left, and-right, all-at}
 use Rattle.page.specs.Limits.{maxBlocks, maxWidth, maxWorkers}
 use Rattle.page.specs.Page.{Lent, fitsTests, fitsB, keepsRulesB, Rules, workersB, blockB, runB, listedB, place, addressOf, blockOf, goodB, soundB, soundIn}
 use Rattle.page.specs.Sequences.{Listed}
@@ -43,6 +43,11 @@ module _ (n bw p b : ℕ) where
   -- what fails it
   pub fits-not : (Fits n bw p b → ⊥) → fitsB n bw p b ≡ false
   fits-not f = refuted _ (λ e. f (fits-facts e))
+
+  -- where the other rules hold, the bitmap's length tells
+  pub fits-is : n ≤ maxBlocks → 1 ≤ bw → bw ≤ maxWidth → p ≡ (n + 1) * bw → eqb b ((n + 64) / 64) ≡ fitsB n bw p b
+  fits-is l s w e =
+      agrees (eqb b ((n + 64) / 64)) (fitsB n bw p b) (λ t. fits-test (l, s, w, e, eqb-true _ _ t)) (λ t. eq-eqb b ((n + 64) / 64) (fits-facts t .4))
 
 module _ (c : Lent) where
   -- a page whose test is true keeps the rules
@@ -78,6 +83,11 @@ module _ (n a : ℕ) where
   pub block-not : ((1 ≤ a) × (a ≤ n) → ⊥) → blockB n a ≡ false
   block-not f = refuted _ (λ e. f (block-facts e))
 
+  -- of a number that is not 0, the second test tells
+  pub block-below : 1 ≤ a → leb a n ≡ blockB n a
+  block-below l =
+      agrees (leb a n) (blockB n a) (λ e. block-test (l, leb-true a n e)) (λ e. le-leb a n (block-facts e .1))
+
 module _ (w : ℕ) where
   -- there are 1 to 8 workers
   pub workers-facts : workersB w ≡ true → (1 ≤ w) × (w ≤ maxWorkers)
@@ -94,6 +104,11 @@ module _ (w : ℕ) where
   unfolding workersB blockB
   workers-not = block-not maxWorkers w
 
+  -- of a number that is not 0, the second test tells
+  pub workers-below : 1 ≤ w → leb w maxWorkers ≡ workersB w
+  unfolding workersB blockB
+  workers-below = block-below maxWorkers w
+
 module _ (n a b : ℕ) where
   -- a run of blocks lies within 1 to n
   pub run-facts : runB n a b ≡ true → (1 ≤ a) × (1 ≤ b) × (a + b ≤ n + 1)
@@ -109,6 +124,11 @@ module _ (n a b : ℕ) where
 
   pub run-not : ((1 ≤ a) × (1 ≤ b) × (a + b ≤ n + 1) → ⊥) → runB n a b ≡ false
   run-not f = refuted _ (λ e. f (run-facts e))
+
+  -- without a sum that could wrap
+  pub run-is : (1 ≤ a) × (a ≤ n) → 1 ≤ b → leb (b - 1) (n - a) ≡ runB n a b
+  run-is f s =
+      agrees (leb (b - 1) (n - a)) (runB n a b) (λ e. run-test (f .0, s, omega (arith, leb-true (b - 1) (n - a) e))) (λ e. le-leb (b - 1) (n - a) (omega (arith, run-facts e)))
 
 -- ---- addresses
 
@@ -228,11 +248,10 @@ good-of n bw h g = ap (goodB n bw) (g .is) ∙ good-test n bw (blockOf bw h) (g 
 
 -- with a block's number, a head is good if it is that block's address
 pub good-is : (n bw h : ℕ) → 1 ≤ bw → bw ≤ maxWidth → 1 ≤ blockOf bw h → blockOf bw h ≤ n → eqb (blockOf bw h * (8 * bw)) h ≡ goodB n bw h
-good-is n bw h s w l m = go (eqb (blockOf bw h * (8 * bw)) h) refl
-  where
-    go : (y : Bool) → eqb (blockOf bw h * (8 * bw)) h ≡ y → y ≡ goodB n bw h
-    go true e = sym (good-of n bw h (record { some = s; narrow = w; is = sym (eqb-true _ _ e) ∙ mul-left-comm (blockOf bw h) 8 bw; low = l; high = m }))
-    go false e = sym (good-not n bw h (λ g. true≢false (sym (eq-eqb _ _ (mul-left-comm (blockOf bw h) 8 bw ∙ sym (g .is))) ∙ e)))
+good-is n bw h s w l m =
+    agrees (eqb (blockOf bw h * (8 * bw)) h) (goodB n bw h)
+    (λ e. good-of n bw h (record { some = s; narrow = w; is = sym (eqb-true _ _ e) ∙ mul-left-comm (blockOf bw h) 8 bw; low = l; high = m }))
+    (λ e. eq-eqb _ _ (mul-left-comm (blockOf bw h) 8 bw ∙ sym (good-facts n bw h e .is)))
 
 -- ---- sound heads
 

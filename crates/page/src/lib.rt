@@ -19,74 +19,41 @@ pub const MAX_WORKERS: u64 = 8;
 pub fn fits(n: u64, bw: u64, page_words: usize, bits_words: usize) -> bool
     ensures { λ r. ⌜ r ≡ fitsB n bw «page_words» «bits_words» ⌝ }
 {
-    if n > MAX_BLOCKS {
+    if n > MAX_BLOCKS || bw < 1 || bw > MAX_WIDTH {
         return false;
     }
-    if bw < 1 {
-        return false;
-    }
-    if bw > MAX_WIDTH {
-        return false;
-    }
-    if page_words as u64 != (n + 1) * bw {
-        return false;
-    }
-    if bits_words as u64 != (n + 64) / 64 {
-        return false;
-    }
-    true
+    page_words as u64 == (n + 1) * bw && bits_words as u64 == (n + 64) / 64
 }
 
 // Whether there may be w workers.
 pub fn workers_fit(w: u64) -> bool
     ensures { λ r. ⌜ r ≡ workersB w ⌝ }
 {
-    if w < 1 {
-        return false;
-    }
-    if w > MAX_WORKERS {
-        return false;
-    }
-    true
+    1 <= w && w <= MAX_WORKERS
 }
 
 // Whether a is a block's number.
 pub fn is_block(n: u64, a: u64) -> bool
     ensures { λ r. ⌜ r ≡ blockB n a ⌝ }
 {
-    if a < 1 {
-        return false;
-    }
-    if n < a {
-        return false;
-    }
-    true
+    1 <= a && a <= n
 }
 
 // Whether a to a+b−1 are blocks' numbers, one at least. No sum is made that could wrap.
 pub fn is_run(n: u64, a: u64, b: u64) -> bool
     ensures { λ r. ⌜ r ≡ runB n a b ⌝ }
 {
-    if !is_block(n, a) {
+    if !is_block(n, a) || b < 1 {
         return false;
     }
-    if b < 1 {
-        return false;
-    }
-    if n - a < b - 1 {
-        return false;
-    }
-    true
+    b - 1 <= n - a
 }
 
 // The address of block a; 0, which means none, where a or bw is past its limit.
 pub fn address(bw: u64, a: u64) -> u64
     ensures { λ r. ⌜ r ≡ cond (leb bw maxWidth && leb a maxBlocks) (addressOf bw a) 0 ⌝ }
 {
-    if bw > MAX_WIDTH {
-        return 0;
-    }
-    if a > MAX_BLOCKS {
+    if bw > MAX_WIDTH || a > MAX_BLOCKS {
         return 0;
     }
     8 * (a * bw)
@@ -96,10 +63,7 @@ pub fn address(bw: u64, a: u64) -> u64
 pub fn block(bw: u64, h: u64) -> u64
     ensures { λ r. ⌜ r ≡ cond (leb 1 bw && leb bw maxWidth) (blockOf bw h) 0 ⌝ }
 {
-    if bw < 1 {
-        return 0;
-    }
-    if bw > MAX_WIDTH {
+    if bw < 1 || bw > MAX_WIDTH {
         return 0;
     }
     h / (8 * bw)
@@ -130,34 +94,19 @@ pub fn set_link(page: &mut [u64], h: u64, to: u64)
 pub fn good(n: u64, bw: u64, h: u64) -> bool
     ensures { λ r. ⌜ r ≡ goodB n bw h ⌝ }
 {
-    if bw < 1 {
-        return false;
-    }
-    if bw > MAX_WIDTH {
+    if bw < 1 || bw > MAX_WIDTH {
         return false;
     }
     let size = 8 * bw;
     let i = h / size;
-    if i < 1 {
-        return false;
-    }
-    if n < i {
-        return false;
-    }
-    i * size == h
+    is_block(n, i) && i * size == h
 }
 
 // Whether h is 0, or the address of a block whose bit is set.
 pub fn sound(n: u64, bw: u64, bits: &[u64], h: u64) -> bool
     ensures { λ r. ⌜ r ≡ soundB n bw (now (bits .entry)) h ⌝ }
 {
-    if h == 0 {
-        return true;
-    }
-    if !good(n, bw, h) {
-        return false;
-    }
-    bitmap::is_set(bits, block(bw, h))
+    h == 0 || good(n, bw, h) && bitmap::is_set(bits, block(bw, h))
 }
 
 // What a walk tells: whether it came to 0, how many blocks it met, and the last of them (0 if none).
@@ -175,14 +124,7 @@ pub fn walk(head: u64, n: u64, bw: u64, page: &[u64], bits: &[u64]) -> Walked
     let mut count = 0;
     let mut last = 0;
     while h != 0 {
-        if n <= count {
-            return Walked {
-                sound: false,
-                count: 0,
-                last: 0,
-            };
-        }
-        if !sound(n, bw, bits, h) {
+        if n <= count || !sound(n, bw, bits, h) {
             return Walked {
                 sound: false,
                 count: 0,

@@ -72,10 +72,7 @@ fn two_bytes(low: u8, high: u8) -> u64
 fn is_mark(x: u8, y: u8, first: u8, second: u8) -> bool
     ensures { λ r. ⌜ r ≡ isMark x y first second ⌝ }
 {
-    if first != x {
-        return false;
-    }
-    second == y
+    first == x && second == y
 }
 
 // The kind that a mark stands for; 0 if none.

@@ -1,22 +1,24 @@
 -- `editor::goes_on` meets its contract, test by test. Assumes nothing.
-use mathlib.Core.Path.{_≡_, ap}
-use mathlib.Core.Bool.{Bool, true, false, not}
+use mathlib.Core.Path.{_≡_, sym, ap, _∙_}
+use mathlib.Core.Logic.{⊎-elim}
+use mathlib.Core.Bool.{Bool, _&&_}
+use lib.Dec.{eqb}
 use Rattle.editor.proofs.goes_on.Statement.{statement}
 use Rattle.editor.proofs.goes_on.Tie as tie
 
--- what a test of `!p` says of p
-of-not : (p b : Bool) → not p ≡ b → p ≡ not b
-of-not true b e = ap not e
-of-not false b e = ap not e
+-- the first two tests
+both : (c : tie.Joined1) → let x = c .before .args in c .if1 .if2 ≡ (x .written && x .whole)
+both c = ⊎-elim (λ w. w .1 ∙ rw (w .0 .taken)) (λ w. w .1 ∙ rw (w .0 .left)) (c .if1 .came)
+
+-- what they came to, with the third
+with-third : (c : tie.Joined1) {v : Bool} → c .if1 .if2 ≡ v → let x = c .before .args in (v && eqb (x .got) (x .room)) ≡ ((x .written && x .whole) && eqb (x .got) (x .room))
+with-third c e = let x = c .before .args in ap (λ (b : Bool). b && eqb (x .got) (x .room)) (sym e ∙ both c)
 
 returns : tie.Need-returns
-returns c = rw (of-not (c .before .args .written) true (c .if1 .taken))
+returns c = with-third (c .before) (c .if2 .taken)
 
 returns-2 : tie.Need-returns-2
-returns-2 c = rw (of-not (c .before .before .args .written) false (c .before .if1 .left), of-not (c .before .before .args .whole) true (c .if2 .taken))
-
-returns-3 : tie.Need-returns-3
-returns-3 c = rw (of-not (c .before .before .args .written) false (c .before .if1 .left), of-not (c .before .before .args .whole) false (c .if2 .left))
+returns-2 c = c .if2 .left ∙ with-third (c .before) (c .if2 .left)
 
 pub goes-on-spec : {M : Type 1} → statement M
-goes-on-spec = tie.close (tie.spec returns returns-2 returns-3)
+goes-on-spec = tie.close (tie.spec returns returns-2)

@@ -131,7 +131,7 @@ loop-again-2 c =
     let e = q .before .before .read in
     let here = config (l .s) (l .page) (l .bits) in
     let i = c .before .before .before .before .before .before .before .before .before .before .before .before .if2 in
-    let any : eqb (e .result .kind) turnsOff ≡ true → i .any ≡ anyBusy (l .s .workers) (l .s .w) = λ t. ⊎-elim (λ w. w .2 ∙ w .1 .ensures) (λ w. absurd (w .0 .left (eqb-true _ _ t))) (i .came) in
+    let any : eqb (e .result .kind) turnsOff ≡ true → i .any ≡ anyBusy (l .s .workers) (l .s .w) = λ t. ⊎-elim {C = i .any ≡ anyBusy (l .s .workers) (l .s .w)} (λ w. w .2 ∙ w .1 .ensures) (λ w. absurd (w .0 .left (eqb-true _ _ t))) (i .came) in
     record {
       rules = still-kept (l .s) _ (l .page) (l .bits) _ _ (l .inv .rules) refl refl refl (search needs) (search needs);
       most = omega arith;

@@ -1,6 +1,7 @@
 -- `page::walk` meets its contract: what is told of the rest of the walk is what is told of the whole. Assumes nothing.
 use Prim.Native.Nat.{ℕ, _-_, _≤_}
 use mathlib.Core.Path.{_≡_, ap, _∙_}
+use mathlib.Core.Logic.{⊎-elim}
 use borrow.Author.Needs.{needs}
 use native.Mathlib.Omega.{arith}
 use Rattle.answers.proofs.Rows.{by-not}
@@ -25,17 +26,13 @@ loop-holds c =
     let e : x .n - 0 ≡ x .n = omega arith in
     (omega arith, ap (λ (room : ℕ). tally 0 0 (walkFrom (lent (x .n) (x .bw) (x .page .now) (x .bits .now)) room (x .head))) e)
 
-returns : tie.Need-returns Inv-loop μ-loop
-returns c =
-    walk-long _ _ _ _ _ (omega arith) (c .before .loop-test .taken) ∙ c .before .before .loop .inv .1
-
 sound-requires : tie.Need-sound-requires Inv-loop μ-loop
 sound-requires c κs = search needs
 
-returns-2 : tie.Need-returns-2 Inv-loop μ-loop
-returns-2 c =
-    walk-bad _ _ _ _ _ (c .before .before .before .loop-test .taken) (by-not (c .before .sound .ensures) (c .if2 .taken))
-    ∙ c .before .before .before .before .loop .inv .1
+returns : tie.Need-returns Inv-loop μ-loop
+returns c =
+    ⊎-elim (λ w. walk-long _ _ _ _ _ (omega (arith, w .taken)) (c .before .loop-test .taken)) (λ w. walk-bad _ _ _ _ _ (c .before .loop-test .taken) (by-not (w .1 .ensures) (w .2 .taken))) (c .if1 .came)
+    ∙ c .before .before .loop .inv .1
 
 block-requires : tie.Need-block-requires Inv-loop μ-loop
 block-requires c κs = search needs
@@ -59,8 +56,8 @@ loop-again c =
     let met = c .before .block .ensures ∙ block-within (x .bw) (l .h) (g .some) (g .narrow) in
     (omega arith, walk-on _ _ _ _ _ _ _ _ (omega arith) some sound met (c .link .ensures) ∙ l .inv .1)
 
-returns-3 : tie.Need-returns-3 Inv-loop μ-loop
-returns-3 c = walk-ends _ _ _ _ _ (c .loop-test .left) ∙ c .before .loop .inv .1
+returns-2 : tie.Need-returns-2 Inv-loop μ-loop
+returns-2 c = walk-ends _ _ _ _ _ (c .loop-test .left) ∙ c .before .loop .inv .1
 
 pub walk-spec : {M : Type 1} → statement M
 walk-spec =
@@ -69,12 +66,11 @@ walk-spec =
     Inv-loop
     μ-loop
     loop-holds
-    returns
     sound-requires
-    returns-2
+    returns
     block-requires
     add-count
     link-requires
     loop-less
     loop-again
-    returns-3)
+    returns-2)

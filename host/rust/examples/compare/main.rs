@@ -19,7 +19,7 @@ use coverage::Coverage;
 use random::Random;
 use scenes::{Stage, SCENES};
 
-const HELP: &str = "compare [--cases N] [--seed S]
+const HELP: &str = "compare [--cases N] [--seed S] [--plant]
 
 Makes calls to the archive and to a plain second reading of document 01 (docs/RULES.md), and compares every answer and
 every word of state, page, bitmap and answers after each. A call is a case. There are random runs from fresh pages, sound
@@ -27,6 +27,7 @@ and damaged states, numbers, lengths and arguments at their limits and past them
 
   --cases N   at least so many cases (5000000)
   --seed S    the first scene's seed (1); the scenes after it have S+1, S+2, ..
+  --plant     with a rule of the reading changed, to see that a difference is found
 
 The tables tell how many cases of each kind there were and which answers. The last line is 'compare: N cases, 0 differ'.
 At the first difference its seed, case and both results are printed, and the status is 1. It is also 1 if, in 100,000 cases
@@ -53,7 +54,7 @@ fn options() -> Result<Option<Options>, String> {
         match word.as_str() {
             "--cases" => found.cases = number()?,
             "--seed" => found.seed = number()?,
-            // Changes a rule of the reading, to see that a difference is found: the fourth sighting ends.
+            // The fourth sighting ends request 11.
             "--plant" => found.plant = true,
             "--help" | "-h" => return Ok(None),
             _ => return Err(format!("unknown option {word}")),
