@@ -42,7 +42,7 @@ pub fn new() -> u64
 pub fn empty() -> u64
     ensures { λ r. ⌜ r ≡ 0 ⌝ }
 {
-    0
+    new()
 }
 
 fn refuse(number: u64, own: u64, got: u64) -> Heads
