@@ -12,6 +12,7 @@ mod text;
 
 use events::ANSWER_WORDS;
 use events::EVENT_WORDS;
+use libc::STDERR_FILENO;
 use libc::STDIN_FILENO;
 use libc::STDOUT_FILENO;
 use machine::State;
@@ -74,7 +75,7 @@ fn main() {
     );
 }
 
-// Reads, answers and writes until the input ends, `bad` was written, or a write fails.
+// Reads, answers and writes until the input ends, `bad` was written, or a write failed.
 fn run(
     state: State,
     page: &mut [u64],
@@ -121,12 +122,21 @@ fn turn(
     let r = perform(state, page, bits, &bytes[..got], events, &mut *answers);
     let whole = r.stop == records::ENDED;
     let end = text::chunk(answers, r.records, whole, &mut *out);
-    let done = io::write_all(STDOUT_FILENO, &out[..end]);
+    let done = put(&out[..end]);
     let next = r.state;
     Turned {
         state: next,
         again: goes_on(done, whole, got, bytes.len()),
     }
+}
+
+// Writes text. Where that fails, a line to standard error says so, since a program of the kit has no status.
+fn put(text: &[u8]) -> bool {
+    let done = io::write_all(STDOUT_FILENO, text);
+    if !done {
+        io::write_all(STDERR_FILENO, b"the answers cannot be written\n");
+    }
+    done
 }
 
 // Whether more is to be read: the text was written, all bytes were records, and they filled their room.
