@@ -22,7 +22,7 @@ use Rattle.lists.specs.Exact.{Appended}
 use Rattle.lists.proofs.Sequences.{inserted, popped, appended, extended, released}
 use Rattle.lists.proofs.Kept.{inserted-keeps, extended-keeps}
 use Rattle.lists.proofs.Walks.{clear-length}
-use Rattle.staged.specs.declared.Worker.{Worker}
+use Rattle.operations.specs.declared.Worker.{Worker}
 use Rattle.machine.specs.Config.{Config, config, lentOf, workerOf, listsOf, putWorker, putLists, withHeads}
 use Rattle.demands.specs.Simple.{Simple, Hands, hands, handsOf, putHands, heldBy, timesIn}
 use Rattle.demands.specs.Relation.{Doing, resting, pushingShared, pushingTagged, takingShared, takingTagged, setting, asking, awaiting, Sim}

@@ -15,7 +15,7 @@ use Rattle.page.specs.Page.{Lent, lent}
 use Rattle.page.specs.Sequences.{times, Each, Apart, Listed, Runs, OthersStay}
 use Rattle.page.proofs.Counting.{hit-same, each-cons}
 use Rattle.page.proofs.Running.{others-run}
-use Rattle.staged.specs.declared.Worker.{Worker}
+use Rattle.operations.specs.declared.Worker.{Worker}
 use Rattle.machine.specs.Config.{Config, config, stateOf, workerOf, blank}
 use Rattle.demands.specs.Simple.{Simple, simple, Hands, still, handsOf, heldBy, timesIn}
 use Rattle.demands.specs.Relation.{Seen, Pushing, loads, writes, exchanges, Doing, resting, pushingShared, pushingTagged, takingShared, takingTagged, setting, asking, awaiting, Fits, Sim}

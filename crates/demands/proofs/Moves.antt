@@ -19,8 +19,9 @@ use Rattle.page.specs.Sequences.{times, Listed, Runs}
 use Rattle.page.proofs.Rules.{address-even}
 use Rattle.page.proofs.Counting.{each-head}
 use Rattle.page.proofs.Running.{run-push, run-none, run-front, run-zero}
-use Rattle.staged.specs.declared.Worker.{Worker}
-use Rattle.staged.specs.Operations.{pushShared, takeShared, pushTagged, takeTagged, setTag, askTag, awaitTag, loading, exchanging, swapping, masking, maxSightings, pushesB, onSharedB, wordOf, rested}
+use Rattle.operations.specs.declared.Worker.{Worker}
+use Rattle.operations.specs.Operations.{pushShared, takeShared, pushTagged, takeTagged, setTag, askTag, awaitTag, loading, exchanging, swapping, masking, pushesB, onSharedB, wordOf}
+use Rattle.staged.specs.Workers.{maxSightings, rested}
 use Rattle.staged.specs.Damage.{turn}
 use Rattle.staged.specs.Moves.{loadAsk, loadAwait, loadAct, writeAct, failsB, newWord, exchangeValue, exchangeAct, swapAct, maskAct, moveAct}
 use Rattle.machine.specs.Config.{Config, lentOf, workerOf, turnOf, putTurn, over}

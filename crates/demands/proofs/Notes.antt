@@ -14,7 +14,7 @@ use Rattle.answers.specs.Numbers.{done, underWay, busy, switched, notEmpty}
 use Rattle.answers.specs.Rows.{row, first, Outcome, outcome, unless}
 use Rattle.answers.proofs.Rows.{unless-either, and-left}
 use Rattle.page.specs.Sequences.{one}
-use Rattle.staged.specs.Operations.{pushShared, awaitTag, stagedB}
+use Rattle.operations.specs.Operations.{pushShared, awaitTag, stagedB}
 use Rattle.staged.specs.Start.{startAct}
 use Rattle.staged.specs.Moves.{moveAct}
 use Rattle.machine.specs.Config.{Config, workerOf, turnOf, putTurn, over}

@@ -13,7 +13,7 @@ use Rattle.page.specs.Page.{listedB, linkAt, soundIn}
 use Rattle.page.specs.Sequences.{Runs}
 use Rattle.page.proofs.Rules.{rules-test, workers-test, block-facts, run-facts}
 use Rattle.page.proofs.Running.{run-sound, run-some, run-rest, walk-is}
-use Rattle.staged.specs.Operations.{pushShared, pushTagged, stagedB, pushesB, takesB, onTaggedB}
+use Rattle.operations.specs.Operations.{pushShared, pushTagged, stagedB, pushesB, takesB, onTaggedB}
 use Rattle.staged.specs.Start.{startFitsB}
 use Rattle.machine.specs.Config.{Config, workerOf, rulesB}
 use Rattle.machine.specs.Config as machine

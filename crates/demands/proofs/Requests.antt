@@ -18,8 +18,8 @@ use Rattle.page.specs.Sequences.{one, Once, upFrom, Runs}
 use Rattle.page.proofs.Counting.{times-append}
 use Rattle.lists.specs.Own.{insertAct, popAct, appendAct, extendAct, releaseAct, emptyAct}
 use Rattle.lists.proofs.Sequences.{popped, appended, released}
-use Rattle.staged.specs.declared.Worker.{Worker}
-use Rattle.staged.specs.Operations.{stagedB, pushesB, takesB, onTaggedB}
+use Rattle.operations.specs.declared.Worker.{Worker}
+use Rattle.operations.specs.Operations.{stagedB, pushesB, takesB, onTaggedB}
 use Rattle.staged.specs.Start.{startAct, startFitsB}
 use Rattle.machine.specs.Config.{Config, lentOf, workerOf, blank, listsOf, putLists, starterOf, putStarter, over}
 use Rattle.machine.specs.Table.{insert, pop, append, extend, release, table, argumentsFitB, anyNamed}

@@ -12,7 +12,7 @@ use Rattle.answers.specs.Numbers.{done, underWay, damaged}
 use Rattle.answers.specs.Rows.{Row, first, Outcome, unless}
 use Rattle.words.specs.Tagged.{freeing}
 use Rattle.page.specs.Sequences.{one}
-use Rattle.staged.specs.Operations.{askTag, stagedB, loading, exchanging, swapping, masking}
+use Rattle.operations.specs.Operations.{askTag, stagedB, loading, exchanging, swapping, masking}
 use Rattle.staged.specs.Damage.{Turn, headWord}
 use Rattle.staged.specs.Moves.{failsB}
 use Rattle.machine.specs.Config.{Config, workerOf, turnOf}

@@ -14,8 +14,9 @@ use Rattle.page.specs.Sequences.{times, Listed, Runs, OthersStay}
 use Rattle.page.proofs.Rules.{bit-inside}
 use Rattle.page.proofs.Running.{others-run}
 use Rattle.lists.proofs.Sequences.{bit-set-adds}
-use Rattle.staged.specs.declared.Worker.{Worker}
-use Rattle.staged.specs.Operations.{pushShared, takeShared, pushTagged, takeTagged, setTag, askTag, awaitTag, pushesB, firstStage, begun}
+use Rattle.operations.specs.declared.Worker.{Worker}
+use Rattle.operations.specs.Operations.{pushShared, takeShared, pushTagged, takeTagged, setTag, askTag, awaitTag, pushesB, firstStage}
+use Rattle.staged.specs.Workers.{begun}
 use Rattle.staged.specs.Start.{startAct}
 use Rattle.machine.specs.Config.{Config, config, lentOf, workerOf, starterOf, putWorker, putStarter, over}
 use Rattle.demands.specs.Simple.{Simple, Hands, hands, handsOf, putHands, timesIn, overHands}

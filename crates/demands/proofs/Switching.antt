@@ -15,8 +15,8 @@ use Rattle.words.specs.Tagged.{tagOf, addressOf}
 use Rattle.page.specs.Page.{Lent}
 use Rattle.page.specs.Sequences.{times}
 use Rattle.page.proofs.Running.{run-none}
-use Rattle.staged.specs.declared.Worker.{Worker}
-use Rattle.staged.specs.Operations.{busyB}
+use Rattle.operations.specs.declared.Worker.{Worker}
+use Rattle.operations.specs.Operations.{busyB}
 use Rattle.machine.specs.Config.{Config, lentOf, workerOf, blank, rulesB}
 use Rattle.machine.specs.Table.{anyBusy, onRefusal, offRefusal}
 use Rattle.machine.specs.Switch.{withSwitch, switchOnOf, switchOffOf}

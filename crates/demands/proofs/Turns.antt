@@ -13,7 +13,7 @@ use Rattle.page.specs.Sequences.{hit, times, Listed, Runs, OthersStay}
 use Rattle.page.proofs.Rules.{place-apart, place-inside}
 use Rattle.page.proofs.Counting.{hit-is, hit-same}
 use Rattle.page.proofs.Running.{others-run}
-use Rattle.staged.specs.declared.Worker.{Worker}
+use Rattle.operations.specs.declared.Worker.{Worker}
 use Rattle.machine.specs.Config.{Config, config, stateOf, lentOf, workerOf, putWorker}
 use Rattle.demands.specs.Simple.{Simple, simple, Hands, hands, still, handsOf, heldBy}
 use Rattle.demands.specs.Relation.{Doing, Fits, Sim}

@@ -12,8 +12,9 @@ use Rattle.page.specs.Page.{Lent, Rules, blockB, listedB, goodB, soundIn}
 use Rattle.page.specs.Page as page
 use Rattle.page.specs.Sequences.{Listed, Runs}
 use Rattle.page.proofs.Rules.{block-test, good-test, address-even}
-use Rattle.staged.specs.declared.Worker.{Worker}
-use Rattle.staged.specs.Operations.{pushShared, takeShared, pushTagged, takeTagged, setTag, askTag, awaitTag, loading, exchanging, swapping, masking, maxSightings, pushesB, takesB, onSharedB, onTaggedB, wordOf, offB, fullB, stagesOf, oneOf}
+use Rattle.operations.specs.declared.Worker.{Worker}
+use Rattle.operations.specs.Operations.{pushShared, takeShared, pushTagged, takeTagged, setTag, askTag, awaitTag, loading, exchanging, swapping, masking, pushesB, takesB, onSharedB, onTaggedB, wordOf, offB, fullB, stagesOf, oneOf}
+use Rattle.staged.specs.Workers.{maxSightings}
 use Rattle.staged.specs.Damage.{handBad, tagBad, sightingsBad, tagOnShared, headBad, seenBad, any, damagedB}
 use Rattle.machine.specs.Config.{Config, lentOf, workerOf, turnOf}
 use Rattle.demands.specs.Simple.{Simple, handsOf}

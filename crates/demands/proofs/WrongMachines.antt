@@ -17,7 +17,8 @@ use Rattle.page.specs.Walk.{walkFrom, walkOf, lastOf}
 use Rattle.page.specs.Sequences.{hit, upFrom}
 use Rattle.lists.specs.Lists.{Lists}
 use Rattle.lists.specs.Own.{with, insertAct, popAct, appendAct, extendAct, releaseAct, emptyAct}
-use Rattle.staged.specs.Operations.{pushShared, askTag, loading, writing, exchanging, swapping, stagedB, pushesB, takesB, onSharedB, onTaggedB, wordOf, offB, fullB, firstStage, stagesOf, oneOf, begun, record8, atStage}
+use Rattle.operations.specs.Operations.{pushShared, askTag, loading, writing, exchanging, swapping, stagedB, pushesB, takesB, onSharedB, onTaggedB, wordOf, offB, fullB, firstStage, stagesOf, oneOf, record8}
+use Rattle.staged.specs.Workers.{begun, atStage}
 use Rattle.staged.specs.Start.{startFitsB, startAct}
 use Rattle.staged.specs.Damage.{Turn, turn, headWord, handBad, tagOnShared, seenBad, headBad, sightingsBad, tagBad, any, damagedB}
 use Rattle.staged.specs.Moves.{goesOn, ends, endsWith, loadAsk, loadAwait, loadAct, writeAct, newWord, exchangeValue, failsB, exchangeAct, swapAct, maskAct, moveAct}

@@ -12,7 +12,7 @@ use Rattle.answers.specs.Rows.{answer}
 use Rattle.words.specs.Tagged.{freeing}
 use Rattle.bitmap.specs.Bitmap.{listedCount}
 use Rattle.page.specs.Sequences.{one}
-use Rattle.staged.specs.Operations.{askTag, busyB}
+use Rattle.operations.specs.Operations.{askTag, busyB}
 use Rattle.machine.specs.Config.{Config, workerOf, lentOf, freshOf}
 use Rattle.machine.specs.Readers.{listedCountOf, firstUnlistedOf, entryRefusal}
 use Rattle.demands.specs.Simple.{Simple, Hands, start, handsOf, timesIn, sumOver}

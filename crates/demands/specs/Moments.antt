@@ -10,7 +10,8 @@ use Rattle.answers.specs.Numbers.{done}
 use Rattle.answers.specs.Rows.{Outcome, outcome}
 use Rattle.words.specs.Tagged.{tagOf, freeing, noDelayedFree}
 use Rattle.page.specs.Page.{place}
-use Rattle.staged.specs.Operations.{takeShared, askTag, awaitTag, loading, exchanging, swapping, masking, maxSightings, busyB}
+use Rattle.operations.specs.Operations.{takeShared, askTag, awaitTag, loading, exchanging, swapping, masking, busyB}
+use Rattle.staged.specs.Workers.{maxSightings}
 use Rattle.staged.specs.Damage.{Turn, headWord}
 use Rattle.staged.specs.Moves.{failsB}
 use Rattle.machine.specs.Config.{Config, config, turnOf, workerOf}

@@ -12,8 +12,9 @@ use Rattle.page.specs.Limits.{maxWorkers}
 use Rattle.page.specs.Page.{Lent, Rules, place}
 use Rattle.page.specs.Page as page
 use Rattle.page.specs.Sequences.{Listed, Runs}
-use Rattle.staged.specs.declared.Worker.{Worker}
-use Rattle.staged.specs.Operations.{pushShared, takeShared, pushTagged, takeTagged, setTag, askTag, awaitTag, loading, writing, exchanging, swapping, masking, maxSightings}
+use Rattle.operations.specs.declared.Worker.{Worker}
+use Rattle.operations.specs.Operations.{pushShared, takeShared, pushTagged, takeTagged, setTag, askTag, awaitTag, loading, writing, exchanging, swapping, masking}
+use Rattle.staged.specs.Workers.{maxSightings}
 use Rattle.machine.specs.Config.{Config, lentOf, workerOf}
 use Rattle.demands.specs.Simple.{Simple, Hands, handsOf, timesIn}
 

@@ -9,7 +9,7 @@ use Rattle.answers.specs.Numbers.{done, underWay, noWorker, busy, idle, switche
 use Rattle.answers.specs.Rows.{row, first, Outcome, outcome, unless}
 use Rattle.words.specs.Tagged.{useDelayedFree, freeing, noDelayedFree}
 use Rattle.page.specs.Sequences.{one, times, upFrom}
-use Rattle.staged.specs.Operations.{pushShared, takeShared, pushTagged, takeTagged, setTag, askTag, stagedB, pushesB}
+use Rattle.operations.specs.Operations.{pushShared, takeShared, pushTagged, takeTagged, setTag, askTag, stagedB, pushesB}
 use Rattle.machine.specs.Table.{insert, pop, append, extend, release, Tests, table, argumentsFitB, anyNamed}
 
 -- a worker: its own list and its got, the block in its hand, the note of its operation under way (0 is none) and the tag

@@ -13,8 +13,8 @@ use Rattle.answers.specs.Rows.{first, Outcome, outcome, refused, unless}
 use Rattle.answers.proofs.Rows.{and-left, and-right}
 use Rattle.page.specs.Limits.{maxWorkers}
 use Rattle.lists.specs.Lists.{Lists}
-use Rattle.staged.specs.declared.Worker.{Worker}
-use Rattle.staged.specs.Operations.{stagedB, busyB}
+use Rattle.operations.specs.declared.Worker.{Worker}
+use Rattle.operations.specs.Operations.{stagedB, busyB}
 use Rattle.staged.specs.Start.{Starter, starter, startOf}
 use Rattle.staged.specs.Damage.{Turn}
 use Rattle.staged.specs.Moves as staged

@@ -7,8 +7,8 @@ use lib.ListN.{getD}
 use Rattle.answers.specs.Numbers.{noWorker}
 use Rattle.answers.specs.Rows.{Outcome, outcome, refused}
 use Rattle.page.specs.Page.{lent}
-use Rattle.staged.specs.declared.Worker.{Worker}
-use Rattle.staged.specs.Operations.{stagedB}
+use Rattle.operations.specs.declared.Worker.{Worker}
+use Rattle.operations.specs.Operations.{stagedB}
 use Rattle.staged.specs.Start.{Starter, starter, startOf}
 use Rattle.staged.specs.Damage.{Turn, turn}
 use Rattle.staged.specs.Moves.{moveOf}

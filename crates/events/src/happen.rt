@@ -2,7 +2,7 @@
 ghost use mathlib.Core.Path.{_≡_};
 ghost use Rattle.page.specs.Page.{lent};
 ghost use Rattle.lists.specs.Lists.{lists, came};
-ghost use Rattle.staged.specs.Operations.{busyB};
+ghost use Rattle.operations.specs.Operations.{busyB};
 ghost use Rattle.staged.specs.Damage.{turn};
 ghost use lib.Dec.{ltb};
 ghost use Rattle.machine.specs.Parts.{askListsOf};
@@ -11,9 +11,9 @@ use answers::NO_WORKER;
 use lists::Heads;
 use machine::ask::ask_lists;
 use machine::toggle::toggle;
-use staged::Worker;
+use operations::Worker;
+use operations::is_staged;
 use staged::moves::make;
-use staged::operations::is_staged;
 use staged::start::start;
 
 pub const A_REQUEST: u64 = 1;

@@ -10,7 +10,7 @@ use lib.Dec.{eqb}
 use lib.ListN.{length, getD, set, take, length-take}
 use lib.Seq.{sets, take-suc, take-all}
 use Rattle.page.specs.Limits.{maxWorkers}
-use Rattle.staged.specs.declared.Worker.{Worker}
+use Rattle.operations.specs.declared.Worker.{Worker}
 use Rattle.machine.specs.declared.State.{State}
 use Rattle.machine.specs.Config.{stateOf, blank}
 use Rattle.host.specs.Spelling.{stateWords, recordAt, workerAt, spelled, workerWords, joined, wordsOf}

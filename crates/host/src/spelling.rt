@@ -6,7 +6,7 @@ ghost use lib.Seq.{sets};
 ghost use Rattle.page.specs.Limits.{maxWorkers};
 ghost use Rattle.host.specs.Spelling.{stateWords, recordAt, workerAt, spelled, workerWords, wordsOf};
 use machine::State;
-use staged::Worker;
+use operations::Worker;
 
 // How many words spell a state.
 pub const STATE_WORDS: usize = 70;

@@ -13,7 +13,7 @@ use Rattle.page.specs.Page.{blockB, runB}
 use Rattle.lists.specs.declared.Heads.{Heads}
 use Rattle.lists.specs.Lists.{Lists, came}
 use Rattle.lists.specs.Own.{emptyOf}
-use Rattle.staged.specs.Operations.{pushShared, awaitTag, stagedB, busyB}
+use Rattle.operations.specs.Operations.{pushShared, awaitTag, stagedB, busyB}
 use Rattle.staged.specs.Start.{Starter, startFitsB, startOf}
 use Rattle.machine.specs.declared.ask.Asked.{Asked}
 use Rattle.machine.specs.Table.{insert, pop, append, extend, release, askEmpty, argumentsFitB}

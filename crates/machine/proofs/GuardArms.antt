@@ -8,8 +8,8 @@ use native.Mathlib.Numerals.{add-one}
 use lib.ListN.{length, getD, drop, drop-of-length-le}
 use lib.Seq.{drop-cons}
 use Rattle.answers.specs.Rows.{outcome}
-use Rattle.staged.specs.declared.Worker.{Worker}
-use Rattle.staged.specs.Operations.{busyB}
+use Rattle.operations.specs.declared.Worker.{Worker}
+use Rattle.operations.specs.Operations.{busyB}
 use Rattle.machine.specs.declared.State.{State}
 use Rattle.machine.specs.declared.Reply.{Reply}
 use Rattle.machine.specs.Config.{config, came, blank}

@@ -7,7 +7,8 @@ use lib.Seq.{getD-set-other}
 use Rattle.answers.specs.Rows.{Outcome}
 use Rattle.answers.proofs.Rows.{unless-either}
 use Rattle.words.specs.Tagged.{tagOf}
-use Rattle.staged.specs.Operations.{takeShared, setTag, askTag, loading, writing, exchanging, swapping, maxSightings, stagedB, pushesB}
+use Rattle.operations.specs.Operations.{takeShared, setTag, askTag, loading, writing, exchanging, swapping, stagedB, pushesB}
+use Rattle.staged.specs.Workers.{maxSightings}
 use Rattle.staged.specs.Damage.{Turn, headWord}
 use Rattle.staged.specs.Moves.{failsB, loadAsk, loadAwait, loadAct, writeAct, exchangeAct, swapAct, maskAct, moveAct}
 use Rattle.machine.specs.Config.{Config, turnOf, putTurn, over, blank}

@@ -5,7 +5,7 @@ use mathlib.Core.Bool.{false, _&&_}
 use native.Mathlib.Omega.{arith}
 use lib.Dec.{eqb}
 use Rattle.answers.proofs.Rows.{first-none}
-use Rattle.staged.specs.Operations.{takesB, onTaggedB}
+use Rattle.operations.specs.Operations.{takesB, onTaggedB}
 use Rattle.machine.specs.Table.{pop, Tests, table}
 
 pub record Passed (code : ℕ) (t : Tests) : Type 0 where

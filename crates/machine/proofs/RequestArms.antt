@@ -15,8 +15,8 @@ use Rattle.page.specs.Limits.{maxWorkers}
 use Rattle.page.specs.Page.{keepsRulesB, workersB, blockB, runB, listedB}
 use Rattle.page.proofs.Rules.{workers-facts}
 use Rattle.lists.specs.Own.{insertAct, insertRefusal, insertOf, popAct, popRefusal, popOf, appendAct, appendRefusal, appendOf, extendAct, extendRefusal, extendOf, releaseAct, releaseRefusal, releaseOf, emptyAct, emptyRefusal, emptyOf}
-use Rattle.staged.specs.declared.Worker.{Worker}
-use Rattle.staged.specs.Operations.{pushShared, awaitTag, stagedB, pushesB, takesB, onTaggedB, offB, fullB, busyB}
+use Rattle.operations.specs.declared.Worker.{Worker}
+use Rattle.operations.specs.Operations.{pushShared, awaitTag, stagedB, pushesB, takesB, onTaggedB, offB, fullB, busyB}
 use Rattle.staged.specs.Start.{Starter, startFitsB, startAct, startRefusal, startOf}
 use Rattle.machine.specs.Config.{Config, config, stateOf, blank, workerOf, lentOf, listsOf, starterOf, putLists, putStarter, over, rulesB}
 use Rattle.machine.specs.Table.{insert, pop, append, extend, release, askEmpty, table, argumentsFitB, anyNamed, ownUnsound, linkUnsound, walkBroken, testsOf, requestRefusal}

@@ -8,7 +8,7 @@ use lib.Seq.{set-getD}
 use Rattle.answers.specs.Numbers.{done, badPage, noSuch, busy, switched, notEmpty}
 use Rattle.answers.specs.Rows.{first, Outcome, outcome, refused, unless}
 use Rattle.words.specs.Tagged.{tagOf, addressOf}
-use Rattle.staged.specs.declared.Worker.{Worker}
+use Rattle.operations.specs.declared.Worker.{Worker}
 use Rattle.machine.specs.declared.toggle.Toggled.{Toggled}
 use Rattle.machine.specs.Config.{Config, config, stateOf, blank, turnOf, putTurn, over, rulesB}
 use Rattle.machine.specs.Table.{anyBusy, onRefusal, offRefusal}

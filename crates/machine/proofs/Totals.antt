@@ -10,7 +10,8 @@ use borrow.Author.Tests.{eqb-true}
 use Rattle.answers.specs.Numbers.{done, underWay, damaged}
 use Rattle.answers.specs.Rows.{Row, first, Outcome, outcome, unless, refused}
 use Rattle.lists.specs.Own.{insertAct, popAct, appendAct, extendAct, releaseAct, emptyAct}
-use Rattle.staged.specs.Operations.{busyB, takeShared, setTag, askTag, loading, writing, exchanging, swapping, maxSightings, stagedB, pushesB, oneOf}
+use Rattle.operations.specs.Operations.{busyB, takeShared, setTag, askTag, loading, writing, exchanging, swapping, stagedB, pushesB, oneOf}
+use Rattle.staged.specs.Workers.{maxSightings}
 use Rattle.staged.specs.Start.{startAct}
 use Rattle.staged.specs.Damage.{Turn, headWord, damagedB}
 use Rattle.staged.specs.Moves.{failsB, loadAsk, loadAwait, loadAct, writeAct, exchangeAct, swapAct, maskAct, moveAct}

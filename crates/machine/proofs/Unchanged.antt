@@ -22,8 +22,9 @@ use Rattle.page.proofs.Running.{run-walk}
 use Rattle.page.proofs.Keeping.{keeps-refl, keeps-lent}
 use Rattle.lists.specs.Own.{emptyAct}
 use Rattle.lists.proofs.Kept.{inserted-keeps, popped-keeps, appended-keeps, extended-keeps, released-keeps}
-use Rattle.staged.specs.declared.Worker.{Worker}
-use Rattle.staged.specs.Operations.{pushShared, pushTagged, takeShared, takeTagged, setTag, askTag, awaitTag, loading, writing, exchanging, swapping, maxSightings, stagedB, pushesB, stagesOf, oneOf}
+use Rattle.operations.specs.declared.Worker.{Worker}
+use Rattle.operations.specs.Operations.{pushShared, pushTagged, takeShared, takeTagged, setTag, askTag, awaitTag, loading, writing, exchanging, swapping, stagedB, pushesB, stagesOf, oneOf}
+use Rattle.staged.specs.Workers.{maxSightings}
 use Rattle.staged.specs.Start.{startFitsB, startAct}
 use Rattle.staged.specs.Damage.{Turn, headWord, handBad, any, damagedB}
 use Rattle.staged.specs.Moves.{failsB, loadAsk, loadAwait, loadAct, writeAct, exchangeAct, swapAct, maskAct, moveAct}

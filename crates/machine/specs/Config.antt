@@ -9,8 +9,8 @@ use Rattle.answers.specs.Rows.{Outcome, outcome}
 use Rattle.page.specs.Limits.{maxWorkers}
 use Rattle.page.specs.Page.{Lent, lent, keepsRulesB, workersB}
 use Rattle.lists.specs.Lists.{Lists}
-use Rattle.staged.specs.declared.Worker.{Worker}
-use Rattle.staged.specs.Operations.{record8}
+use Rattle.operations.specs.declared.Worker.{Worker}
+use Rattle.operations.specs.Operations.{record8}
 use Rattle.staged.specs.Start.{Starter, starter}
 use Rattle.staged.specs.Damage.{Turn, turn}
 use Rattle.machine.specs.declared.State.{State}

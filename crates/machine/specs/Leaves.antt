@@ -4,7 +4,7 @@ use mathlib.Core.Path.{_≡_}
 use mathlib.Core.Logic.{_≢_}
 use mathlib.Core.Bool.{Bool, true}
 use lib.ListN.{getD}
-use Rattle.staged.specs.Operations.{stagedB}
+use Rattle.operations.specs.Operations.{stagedB}
 use Rattle.machine.specs.Config.{Config, blank}
 use Rattle.machine.specs.Requests.{requestOf}
 use Rattle.machine.specs.Moves.{moveOf}

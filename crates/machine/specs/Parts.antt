@@ -10,8 +10,8 @@ use Rattle.words.specs.Tagged.{tagOf, addressOf}
 use Rattle.page.specs.Page.{Lent, lent}
 use Rattle.lists.specs.Lists.{Lists}
 use Rattle.lists.specs.Own.{insertOf, popOf, appendOf, extendOf, releaseOf, emptyOf}
-use Rattle.staged.specs.declared.Worker.{Worker}
-use Rattle.staged.specs.Operations.{stagedB, busyB}
+use Rattle.operations.specs.declared.Worker.{Worker}
+use Rattle.operations.specs.Operations.{stagedB, busyB}
 use Rattle.staged.specs.Start.{Starter, starter, startOf}
 use Rattle.staged.specs.Damage.{Turn, turn}
 use Rattle.machine.specs.declared.ask.Asked.{Asked}

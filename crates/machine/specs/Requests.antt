@@ -5,7 +5,7 @@ use lib.Dec.{eqb}
 use Rattle.answers.specs.Rows.{Outcome, unless}
 use Rattle.lists.specs.Lists.{Lists}
 use Rattle.lists.specs.Own.{insertAct, popAct, appendAct, extendAct, releaseAct, emptyAct}
-use Rattle.staged.specs.Operations.{stagedB}
+use Rattle.operations.specs.Operations.{stagedB}
 use Rattle.staged.specs.Start.{startAct}
 use Rattle.machine.specs.Config.{Config, listsOf, starterOf, putLists, putStarter, over}
 use Rattle.machine.specs.Table.{insert, pop, append, extend, release, requestRefusal}

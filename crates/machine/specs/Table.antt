@@ -9,8 +9,8 @@ use Rattle.words.specs.Tagged.{addressOf}
 use Rattle.bitmap.specs.Bitmap.{anyFrom}
 use Rattle.page.specs.Page.{blockB, runB, listedB, linkAt, soundIn}
 use Rattle.page.specs.Walk.{walkOf}
-use Rattle.staged.specs.declared.Worker.{Worker}
-use Rattle.staged.specs.Operations.{stagedB, pushesB, takesB, onTaggedB, busyB}
+use Rattle.operations.specs.declared.Worker.{Worker}
+use Rattle.operations.specs.Operations.{stagedB, pushesB, takesB, onTaggedB, busyB}
 use Rattle.staged.specs.Start.{startFitsB}
 use Rattle.staged.specs.Damage.{damagedB}
 use Rattle.machine.specs.Config.{Config, workerOf, lentOf, turnOf, rulesB}

@@ -11,7 +11,7 @@ use Rattle.answers.specs.Numbers.{done, underWay, badPage, noWorker, noSuch, bu
 use Rattle.answers.specs.Rows.{Row, row, Outcome}
 use Rattle.words.specs.Tagged.{addressOf}
 use Rattle.page.specs.Keeps.{Keeps}
-use Rattle.staged.specs.Operations.{takesB, onTaggedB, busyB, oneOf}
+use Rattle.operations.specs.Operations.{takesB, onTaggedB, busyB, oneOf}
 use Rattle.staged.specs.Damage.{damagedB}
 use Rattle.machine.specs.Config.{Config, lentOf, workerOf, turnOf, blank, rulesB}
 use Rattle.machine.specs.Table.{pop, testsOf, anyBusy}

@@ -2,7 +2,7 @@
 ghost use mathlib.Core.Path.{_≡_};
 ghost use Rattle.page.specs.Page.{lent};
 ghost use Rattle.lists.specs.Lists.{lists, came, heads};
-ghost use Rattle.staged.specs.Operations.{busyB};
+ghost use Rattle.operations.specs.Operations.{busyB};
 ghost use Rattle.machine.specs.Table.{argumentsFitB};
 ghost use Rattle.machine.specs.Config.{withHeads};
 ghost use Rattle.machine.specs.Parts.{asked, asker, answered, atOnceOf, askListsOf, askOf};
@@ -15,13 +15,13 @@ use lists::is_empty;
 use lists::make_empty;
 use lists::pop_block;
 use lists::prepend_contiguous_blocks;
+use operations::AWAIT_TAG;
+use operations::PUSH_SHARED;
+use operations::Worker;
+use operations::is_busy;
+use operations::is_staged;
 use page::is_block;
 use page::is_run;
-use staged::Worker;
-use staged::operations::AWAIT_TAG;
-use staged::operations::PUSH_SHARED;
-use staged::operations::is_busy;
-use staged::operations::is_staged;
 use staged::start::start;
 use staged::start::start_fits;
 

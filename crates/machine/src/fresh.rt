@@ -6,7 +6,7 @@ use crate::State;
 use crate::guards::rules;
 use answers::BAD_PAGE;
 use answers::DONE;
-use staged::Worker;
+use operations::Worker;
 
 // Heads 0, T off, workers idle.
 fn at_rest(n: u64, bw: u64, w: u64) -> State

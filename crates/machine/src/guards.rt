@@ -6,9 +6,9 @@ ghost use Rattle.machine.specs.Config.{reply};
 ghost use Rattle.machine.specs.Table.{anyBusy};
 use crate::Reply;
 use crate::State;
+use operations::is_busy;
 use page::fits;
 use page::workers_fit;
-use staged::operations::is_busy;
 
 // The worker records that a state has.
 const RECORDS: usize = 8;

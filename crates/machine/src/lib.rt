@@ -1,6 +1,6 @@
 // The whole machine over a State, the page and the bitmap. No public function has a requires: each refuses by document
 // 01's numbers, the smallest first, and a refusal changes nothing.
-use staged::Worker;
+use operations::Worker;
 
 pub mod ask;
 pub mod fresh;

@@ -12,10 +12,11 @@ use Rattle.answers.proofs.Rows.{and-left}
 use Rattle.page.specs.Limits.{maxBlocks}
 use Rattle.page.specs.Page.{Rules, blockB, listedB}
 use Rattle.page.proofs.Rules.{block-facts}
-use Rattle.staged.specs.Operations.{setTag, maxTag, pushesB, fullB, writing, pairedB}
+use Rattle.operations.specs.Operations.{setTag, pushesB, fullB, writing, pairedB}
+use Rattle.operations.proofs.PairArms.{writing-pushes}
+use Rattle.staged.specs.Workers.{maxTag}
 use Rattle.staged.specs.Damage.{Turn, any, handBad, tagBad, damageTests, damagedB}
 use Rattle.staged.specs.Moves.{Fitting}
-use Rattle.staged.proofs.PairArms.{writing-pushes}
 
 -- ---- any of a list of tests
 

@@ -1,4 +1,3 @@
-pub mod PairArms
 pub mod StartArms
 pub mod DamageArms
 pub mod StageArms

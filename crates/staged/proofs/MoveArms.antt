@@ -8,7 +8,7 @@ use borrow.Author.Tests.{ne-eqb}
 use Rattle.answers.specs.Numbers.{badPage, idle, damaged}
 use Rattle.answers.specs.Rows.{row, first, Outcome, refused, unless}
 use Rattle.page.specs.Page.{keepsRulesB}
-use Rattle.staged.specs.Operations.{loading, writing, exchanging, swapping, busyB}
+use Rattle.operations.specs.Operations.{loading, writing, exchanging, swapping, busyB}
 use Rattle.staged.specs.Damage.{Turn, damagedB}
 use Rattle.staged.specs.Moves.{loadAct, writeAct, exchangeAct, swapAct, maskAct, moveRefusal, moveAct, moveOf}
 

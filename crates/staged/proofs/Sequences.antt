@@ -19,7 +19,8 @@ use Rattle.page.specs.Sequences.{times, Runs}
 use Rattle.page.proofs.Counting.{hit-zero}
 use Rattle.page.proofs.Rules.{address-even, place-inside, place-apart}
 use Rattle.page.proofs.Running.{run-push, run-front, others-run}
-use Rattle.staged.specs.Operations.{pushShared, pushTagged, pushesB, onSharedB, wordOf, begun, loading, exchanging}
+use Rattle.operations.specs.Operations.{pushShared, pushTagged, pushesB, onSharedB, wordOf, loading, exchanging}
+use Rattle.staged.specs.Workers.{begun}
 use Rattle.staged.specs.Start.{startAct, startRefusal, startOf}
 use Rattle.staged.specs.Damage.{Turn, headWord}
 use Rattle.staged.specs.Moves.{loadAsk, loadAwait, loadAct, writeAct, newWord, exchangeValue, failsB, exchangeAct, swapAct, maskAct, moveAct, moveRefusal, moveOf}

@@ -15,9 +15,10 @@ use Rattle.page.specs.Limits.{maxBlocks, maxWidth}
 use Rattle.page.specs.Page.{Lent, lent, blockOf}
 use Rattle.page.specs.Page as page
 use Rattle.page.proofs.Rules.{address-within, address-place, address-even, block-within}
-use Rattle.staged.specs.declared.Worker.{Worker}
+use Rattle.operations.specs.declared.Worker.{Worker}
+use Rattle.operations.specs.Operations.{takeShared, setTag, askTag, pushesB, onSharedB, loading, writing, exchanging, swapping}
 use Rattle.staged.specs.declared.moves.Moved.{Moved}
-use Rattle.staged.specs.Operations.{takeShared, setTag, askTag, maxTag, maxSightings, pushesB, onSharedB, loading, writing, exchanging, swapping, rested, holding, sighted, atStage}
+use Rattle.staged.specs.Workers.{maxTag, maxSightings, rested, holding, sighted, atStage}
 use Rattle.staged.specs.Damage.{Turn, turn, headWord}
 use Rattle.staged.specs.Moves.{leaves, went, goesOn, ends, sees, loadAsk, loadAwait, loadAct, writeAct, Fitting, wantedTag, failsB, newWord, exchangeValue, exchangeAct, swapAct, maskAct}
 

@@ -7,8 +7,9 @@ use Rattle.answers.specs.Numbers.{underWay, noSuch, busy, switched, notEmpty, l
 use Rattle.answers.specs.Rows.{row, first, Outcome, outcome, refused, unless}
 use Rattle.bitmap.specs.Bitmap.{bitPut}
 use Rattle.page.specs.Page.{listedB}
+use Rattle.operations.specs.Operations.{pushesB, offB, fullB, busyB}
 use Rattle.staged.specs.declared.start.Begun.{Begun}
-use Rattle.staged.specs.Operations.{pushesB, offB, fullB, busyB, begun}
+use Rattle.staged.specs.Workers.{begun}
 use Rattle.staged.specs.Start.{Starter, starter, started, startFitsB, startRefusal, startAct, startOf}
 
 -- what is given back by a call is what its promise says

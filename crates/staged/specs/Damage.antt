@@ -5,8 +5,9 @@ use mathlib.Core.List.{List, [], _∷_}
 use lib.Dec.{ltb, eqb}
 use Rattle.words.specs.Tagged.{tagOf, addressOf}
 use Rattle.page.specs.Page.{Lent, blockB, listedB, goodB, soundB}
-use Rattle.staged.specs.declared.Worker.{Worker}
-use Rattle.staged.specs.Operations.{pushesB, onSharedB, wordOf, offB, fullB, setTag, askTag, maxTag, maxSightings, readsHeadB, usesSeenB, pairedB}
+use Rattle.operations.specs.declared.Worker.{Worker}
+use Rattle.operations.specs.Operations.{pushesB, onSharedB, wordOf, offB, fullB, setTag, askTag, readsHeadB, usesSeenB, pairedB}
+use Rattle.staged.specs.Workers.{maxTag, maxSightings}
 
 -- one worker's record, the two head words, the switch, and what is lent
 pub record Turn : Type 0 where

@@ -13,7 +13,7 @@ use Rattle.words.specs.Tagged.{tagOf, addressOf, freeing, noDelayedFree, useDel
 use Rattle.bitmap.specs.Bitmap.{bitPut}
 use Rattle.page.specs.Page.{Rules, place}
 use Rattle.page.specs.Sequences.{times, Listed, Runs, OthersRun}
-use Rattle.staged.specs.Operations.{pushesB, onSharedB, takeShared, takeTagged, setTag, askTag, awaitTag, loading, writing, exchanging, swapping, masking, wordOf}
+use Rattle.operations.specs.Operations.{pushesB, onSharedB, takeShared, takeTagged, setTag, askTag, awaitTag, loading, writing, exchanging, swapping, masking, wordOf}
 use Rattle.staged.specs.Start.{Starter, startRefusal, startOf}
 use Rattle.staged.specs.Damage.{Turn, headWord}
 use Rattle.staged.specs.Moves.{moveRefusal, moveOf}

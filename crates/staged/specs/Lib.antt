@@ -1,4 +1,4 @@
-pub mod Operations
+pub mod Workers
 pub mod Start
 pub mod Damage
 pub mod Moves

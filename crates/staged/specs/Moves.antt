@@ -11,9 +11,10 @@ use Rattle.words.specs.Tagged.{tagOf, addressOf, freeing, noDelayedFree}
 use Rattle.page.specs.Limits.{maxBlocks, maxWidth}
 use Rattle.page.specs.Page.{Lent, lent, keepsRulesB, place, blockOf}
 use Rattle.page.specs.Page as page
-use Rattle.staged.specs.declared.Worker.{Worker}
+use Rattle.operations.specs.declared.Worker.{Worker}
+use Rattle.operations.specs.Operations.{pushesB, onSharedB, takeShared, setTag, askTag, loading, writing, exchanging, swapping, busyB}
 use Rattle.staged.specs.declared.moves.Moved.{Moved}
-use Rattle.staged.specs.Operations.{pushesB, onSharedB, takeShared, setTag, askTag, loading, writing, exchanging, swapping, maxTag, maxSightings, busyB, rested, holding, saw, sighted, atStage}
+use Rattle.staged.specs.Workers.{maxTag, maxSightings, rested, holding, saw, sighted, atStage}
 use Rattle.staged.specs.Damage.{Turn, turn, headWord, damagedB}
 
 -- ---- what a move leaves

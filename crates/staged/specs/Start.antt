@@ -8,9 +8,10 @@ use Rattle.answers.specs.Numbers.{underWay, noSuch, busy, switched, notEmpty, l
 use Rattle.answers.specs.Rows.{row, first, Outcome, outcome, unless}
 use Rattle.bitmap.specs.Bitmap.{bitPut}
 use Rattle.page.specs.Page.{blockB, listedB}
-use Rattle.staged.specs.declared.Worker.{Worker}
+use Rattle.operations.specs.declared.Worker.{Worker}
+use Rattle.operations.specs.Operations.{setTag, stagedB, pushesB, offB, fullB, busyB}
 use Rattle.staged.specs.declared.start.Begun.{Begun}
-use Rattle.staged.specs.Operations.{setTag, maxTag, stagedB, pushesB, offB, fullB, busyB, begun}
+use Rattle.staged.specs.Workers.{maxTag, begun}
 
 -- what a start may change: the worker's record and the bitmap
 pub record Starter : Type 0 where

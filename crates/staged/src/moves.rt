@@ -3,13 +3,7 @@ ghost use mathlib.Core.Path.{_≡_};
 ghost use Rattle.page.specs.Page.{lent};
 ghost use Rattle.staged.specs.Damage.{turn};
 ghost use Rattle.staged.specs.Moves.{moved, went, moveOf};
-use crate::Worker;
 use crate::damage::is_damaged;
-use crate::operations::EXCHANGING;
-use crate::operations::LOADING;
-use crate::operations::SWAPPING;
-use crate::operations::WRITING;
-use crate::operations::is_busy;
 use crate::stages::exchange;
 use crate::stages::load;
 use crate::stages::mask;
@@ -18,6 +12,12 @@ use crate::stages::write;
 use answers::BAD_PAGE;
 use answers::DAMAGED;
 use answers::IDLE;
+use operations::EXCHANGING;
+use operations::LOADING;
+use operations::SWAPPING;
+use operations::WRITING;
+use operations::Worker;
+use operations::is_busy;
 
 // What a move gives back: its answer, the two head words and the worker's record.
 pub struct Moved {

@@ -2,24 +2,24 @@
 // has a requires.
 ghost use mathlib.Core.Path.{_≡_};
 ghost use Rattle.answers.specs.Numbers.{underWay};
-ghost use Rattle.staged.specs.Operations.{begun};
+ghost use Rattle.staged.specs.Workers.{begun};
 ghost use Rattle.staged.specs.Start.{starter, begins, started, startFitsB, startOf};
-use crate::Worker;
-use crate::choice::only_if;
-use crate::operations::MAX_TAG;
-use crate::operations::SET_TAG;
-use crate::operations::first_stage;
-use crate::operations::is_busy;
-use crate::operations::is_full;
-use crate::operations::is_off;
-use crate::operations::is_staged;
-use crate::operations::pushes;
+use crate::MAX_TAG;
 use answers::BUSY;
 use answers::LISTED;
 use answers::NO_SUCH;
 use answers::NOT_EMPTY;
 use answers::SWITCHED;
 use answers::UNDER_WAY;
+use operations::SET_TAG;
+use operations::Worker;
+use operations::choice::only_if;
+use operations::first_stage;
+use operations::is_busy;
+use operations::is_full;
+use operations::is_off;
+use operations::is_staged;
+use operations::pushes;
 
 // What a start gives back.
 pub struct Begun {

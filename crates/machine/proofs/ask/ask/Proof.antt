@@ -3,7 +3,7 @@ use mathlib.Core.Path.{refl, ap, _∙_}
 use mathlib.Core.Logic.{inl, inr, ⊎-elim}
 use native.Mathlib.Omega.{arith}
 use Rattle.page.specs.Page.{lent}
-use Rattle.staged.specs.declared.Worker.{Worker}
+use Rattle.operations.specs.declared.Worker.{Worker}
 use Rattle.machine.specs.Parts.{asked, asker}
 use Rattle.machine.proofs.AskArms.{answered-by, is-staged, below-staged, above-staged, ask-is, ask-none}
 use borrow.Author.Needs.{needs}

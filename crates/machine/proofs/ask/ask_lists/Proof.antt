@@ -2,7 +2,7 @@
 use mathlib.Core.Path.{refl, _∙_}
 use Rattle.answers.proofs.Rows.{by, by-not}
 use Rattle.lists.specs.Lists.{lists}
-use Rattle.staged.specs.Operations.{busyB}
+use Rattle.operations.specs.Operations.{busyB}
 use Rattle.machine.proofs.AskArms.{heads-by, ask-lists-is}
 use borrow.Author.Needs.{needs}
 use Rattle.machine.proofs.ask.ask_lists.Statement.{statement}

@@ -6,9 +6,9 @@ use Rattle.answers.specs.Rows.{Outcome}
 use Rattle.answers.proofs.Rows.{by, by-not}
 use Rattle.page.specs.Page.{Rules, keepsRulesB, lent}
 use Rattle.page.proofs.Rules.{rules-facts}
+use Rattle.operations.specs.Operations.{busyB}
 use Rattle.staged.specs.Damage.{Turn, damagedB, turn}
 use Rattle.staged.specs.Moves.{moveAct, moveOf}
-use Rattle.staged.specs.Operations.{busyB}
 use Rattle.staged.proofs.DamageArms.{fitting, writes}
 use Rattle.staged.proofs.MoveArms.{act-at, act-rest, move-is}
 use Rattle.staged.proofs.StageArms.{left}

@@ -1,6 +1,6 @@
 -- `staged::start::begin` meets its contract. Assumes nothing.
 use borrow.Author.Needs.{needs}
-use Rattle.staged.specs.Operations.{begun}
+use Rattle.staged.specs.Workers.{begun}
 use Rattle.staged.proofs.start.begin.Statement.{statement}
 use Rattle.staged.proofs.start.begin.Tie as tie
 

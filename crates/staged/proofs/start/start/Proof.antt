@@ -3,7 +3,7 @@ use mathlib.Core.Bool.{false, true}
 use mathlib.Core.Path.{_∙_, _≡_, refl}
 use borrow.Author.Needs.{needs}
 use Rattle.answers.proofs.Rows.{by, by-not}
-use Rattle.staged.specs.Operations.{busyB, fullB, offB, pushesB}
+use Rattle.operations.specs.Operations.{busyB, fullB, offB, pushesB}
 use Rattle.staged.specs.Start.{startFitsB}
 use Rattle.staged.proofs.StartArms.{given, start-is}
 use Rattle.staged.proofs.start.start.Statement.{statement}

@@ -1,0 +1,2 @@
+pub mod PairArms
+pub mod Agree
