@@ -5,6 +5,7 @@ ghost use lib.ListN.{length};
 ghost use lib.Seq.{sets};
 ghost use Rattle.page.specs.Limits.{maxWorkers};
 ghost use Rattle.host.specs.Spelling.{stateWords, recordAt, workerAt, spelled, workerWords, wordsOf};
+use machine::RECORDS;
 use machine::State;
 use operations::Worker;
 
@@ -29,9 +30,6 @@ const FIRST_RECORD: usize = 6;
 
 // How many words spell a worker record.
 const RECORD_WORDS: usize = 8;
-
-// How many worker records there are.
-const RECORDS: usize = 8;
 
 // Reads worker i's record.
 fn worker_at(words: &[u64; STATE_WORDS], i: usize) -> Worker

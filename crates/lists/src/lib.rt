@@ -45,7 +45,8 @@ pub fn empty() -> u64
     new()
 }
 
-fn refuse(number: u64, own: u64, got: u64) -> Heads
+// A refusal: the heads stay.
+pub fn refuse(number: u64, own: u64, got: u64) -> Heads
     ensures { λ r. ⌜ r ≡ heads number 0 own got ⌝ }
 {
     Heads {

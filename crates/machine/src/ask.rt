@@ -1,7 +1,7 @@
 // A worker's part of a request: its record, the switch and the lent slices. The page rules and the worker are tested before.
 ghost use mathlib.Core.Path.{_≡_};
 ghost use Rattle.page.specs.Page.{lent};
-ghost use Rattle.lists.specs.Lists.{lists, came, heads};
+ghost use Rattle.lists.specs.Lists.{lists, came};
 ghost use Rattle.operations.specs.Operations.{busyB};
 ghost use Rattle.machine.specs.Table.{argumentsFitB};
 ghost use Rattle.machine.specs.Config.{withHeads};
@@ -15,6 +15,7 @@ use lists::is_empty;
 use lists::make_empty;
 use lists::pop_block;
 use lists::prepend_contiguous_blocks;
+use lists::refuse;
 use operations::AWAIT_TAG;
 use operations::PUSH_SHARED;
 use operations::Worker;
@@ -93,18 +94,6 @@ pub fn with_heads(k: Worker, own: u64, got: u64) -> Worker
     next.own = own;
     next.got = got;
     next
-}
-
-// A refusal: the heads stay.
-fn refuse(number: u64, own: u64, got: u64) -> Heads
-    ensures { λ r. ⌜ r ≡ heads number 0 own got ⌝ }
-{
-    Heads {
-        number,
-        value: 0,
-        own,
-        got,
-    }
 }
 
 // A request that is none of 6 to 12: refused with 4 or 5, or it acts at once. `k` has the worker's own and got.

@@ -1,6 +1,7 @@
 // The fresh start. No public function has a requires.
 ghost use mathlib.Core.Path.{_≡_};
 ghost use Rattle.machine.specs.Config.{came, freshState, zeroed, freshOf};
+use crate::RECORDS;
 use crate::Reply;
 use crate::State;
 use crate::guards::rules;
@@ -29,7 +30,7 @@ fn at_rest(n: u64, bw: u64, w: u64) -> State
         shared: 0,
         tagged: 0,
         on: false,
-        workers: [blank; 8],
+        workers: [blank; RECORDS],
     }
 }
 

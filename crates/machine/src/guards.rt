@@ -4,14 +4,12 @@ ghost use mathlib.Core.Bool.{_&&_};
 ghost use Rattle.page.specs.Page.{fitsB, workersB};
 ghost use Rattle.machine.specs.Config.{reply};
 ghost use Rattle.machine.specs.Table.{anyBusy};
+use crate::RECORDS;
 use crate::Reply;
 use crate::State;
 use operations::is_busy;
 use page::fits;
 use page::workers_fit;
-
-// The worker records that a state has.
-const RECORDS: usize = 8;
 
 // Whether n, bw, the two lengths and W keep the page rules.
 pub fn rules(n: u64, bw: u64, w: u64, page_words: usize, bits_words: usize) -> bool

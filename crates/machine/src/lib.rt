@@ -10,7 +10,10 @@ pub mod request;
 pub mod switch;
 pub mod toggle;
 
-// The state: the page's numbers, the shared head, the tagged word and its switch, and eight worker records.
+// The worker records that a state has: as many as there may be workers.
+pub const RECORDS: usize = 8;
+
+// The state: the page's numbers, the shared head, the tagged word and its switch, and the worker records.
 pub struct State {
     pub n: u64,
     pub bw: u64,
@@ -18,7 +21,7 @@ pub struct State {
     pub shared: u64,
     pub tagged: u64,
     pub on: bool,
-    pub workers: [Worker; 8],
+    pub workers: [Worker; RECORDS],
 }
 
 // An answer and the state after it.
