@@ -8,20 +8,14 @@ ghost use Rattle.operations.specs.Operations.{oneOf};
 pub fn is_either(x: u64, a: u64, b: u64) -> bool
     ensures { λ r. ⌜ r ≡ oneOf x (a ∷ b ∷ []) ⌝ }
 {
-    if x == a {
-        return true;
-    }
-    x == b
+    x == a || x == b
 }
 
 // Whether a number is one of three.
 pub fn is_one_of(x: u64, a: u64, b: u64, c: u64) -> bool
     ensures { λ r. ⌜ r ≡ oneOf x (a ∷ b ∷ c ∷ []) ⌝ }
 {
-    if x == a {
-        return true;
-    }
-    is_either(x, b, c)
+    x == a || is_either(x, b, c)
 }
 
 // A number where a test holds, else 0.

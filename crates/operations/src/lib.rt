@@ -47,50 +47,35 @@ pub struct Worker {
 pub fn is_staged(operation: u64) -> bool
     ensures { λ r. ⌜ r ≡ stagedB operation ⌝ }
 {
-    if operation < PUSH_SHARED {
-        return false;
-    }
-    operation <= AWAIT_TAG
+    PUSH_SHARED <= operation && operation <= AWAIT_TAG
 }
 
 // Whether it pushes.
 pub fn pushes(operation: u64) -> bool
     ensures { λ r. ⌜ r ≡ pushesB operation ⌝ }
 {
-    if operation == PUSH_SHARED {
-        return true;
-    }
-    operation == PUSH_TAGGED
+    operation == PUSH_SHARED || operation == PUSH_TAGGED
 }
 
 // Whether it takes.
 pub fn takes(operation: u64) -> bool
     ensures { λ r. ⌜ r ≡ takesB operation ⌝ }
 {
-    if operation == TAKE_SHARED {
-        return true;
-    }
-    operation == TAKE_TAGGED
+    operation == TAKE_SHARED || operation == TAKE_TAGGED
 }
 
 // Whether it is on S.
 pub fn on_shared(operation: u64) -> bool
     ensures { λ r. ⌜ r ≡ onSharedB operation ⌝ }
 {
-    if operation == PUSH_SHARED {
-        return true;
-    }
-    operation == TAKE_SHARED
+    operation == PUSH_SHARED || operation == TAKE_SHARED
 }
 
 // Whether it is on T.
 pub fn on_tagged(operation: u64) -> bool
     ensures { λ r. ⌜ r ≡ onTaggedB operation ⌝ }
 {
-    if operation < PUSH_TAGGED {
-        return false;
-    }
-    operation <= AWAIT_TAG
+    PUSH_TAGGED <= operation && operation <= AWAIT_TAG
 }
 
 // Its head word: S or T.
@@ -107,20 +92,14 @@ pub fn word_of(operation: u64, shared: u64, tagged: u64) -> u64
 pub fn is_off(operation: u64, on: bool) -> bool
     ensures { λ r. ⌜ r ≡ offB operation on ⌝ }
 {
-    if on {
-        return false;
-    }
-    on_tagged(operation)
+    !on && on_tagged(operation)
 }
 
 // Whether it takes while got is not empty.
 pub fn is_full(operation: u64, got: u64) -> bool
     ensures { λ r. ⌜ r ≡ fullB operation got ⌝ }
 {
-    if got == 0 {
-        return false;
-    }
-    takes(operation)
+    got != 0 && takes(operation)
 }
 
 // The first stage.
