@@ -29,26 +29,17 @@ use words::masked_ptr_delay_get_ptr;
 fn hand_bad(k: Worker, n: u64, bits: &[u64]) -> bool
     ensures { λ r. ⌜ r ≡ handBad n (now (bits .entry)) k ⌝ }
 {
-    if !pushes(k.operation) {
-        return false;
-    }
-    if !page::is_block(n, k.hand) {
-        return true;
-    }
-    !bitmap::is_set(bits, k.hand)
+    pushes(k.operation) && (!page::is_block(n, k.hand) || !bitmap::is_set(bits, k.hand))
 }
 
 // For S, whether a word has a tag.
 fn tag_on_shared(operation: u64, word: u64) -> bool
     ensures { λ r. ⌜ r ≡ tagOnShared operation word ⌝ }
 {
-    if !on_shared(operation) {
-        return false;
-    }
-    masked_ptr_delay_get_delay(word) != 0
+    on_shared(operation) && masked_ptr_delay_get_delay(word) != 0
 }
 
-// At write or exchange, whether the word seen is neither 0 nor good.
+// At write or exchange, whether the word seen is neither 0 nor good; for S, whether it has a tag.
 fn seen_bad(k: Worker, n: u64, bw: u64) -> bool
     ensures { λ r. ⌜ r ≡ seenBad n bw k ⌝ }
 {
@@ -65,7 +56,7 @@ fn seen_bad(k: Worker, n: u64, bw: u64) -> bool
     tag_on_shared(k.operation, k.seen)
 }
 
-// At load, swap or masking, whether the head is not sound.
+// At load, swap or masking, whether the head is not sound; for S, whether it has a tag.
 fn head_bad(k: Worker, n: u64, bw: u64, word: u64, bits: &[u64]) -> bool
     ensures { λ r. ⌜ r ≡ headBad n bw (now (bits .entry)) k word ⌝ }
 {
@@ -82,20 +73,14 @@ fn head_bad(k: Worker, n: u64, bw: u64, word: u64, bits: &[u64]) -> bool
 fn sightings_bad(k: Worker) -> bool
     ensures { λ r. ⌜ r ≡ sightingsBad k ⌝ }
 {
-    if k.operation != ASK_TAG {
-        return false;
-    }
-    MAX_SIGHTINGS < k.sightings
+    k.operation == ASK_TAG && MAX_SIGHTINGS < k.sightings
 }
 
 // For 10, whether the wanted tag is above 3.
 fn tag_bad(k: Worker) -> bool
     ensures { λ r. ⌜ r ≡ tagBad k ⌝ }
 {
-    if k.operation != SET_TAG {
-        return false;
-    }
-    MAX_TAG < k.tag
+    k.operation == SET_TAG && MAX_TAG < k.tag
 }
 
 // Whether a move finds its operation damaged, whatever stands in the page.

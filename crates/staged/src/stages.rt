@@ -158,10 +158,7 @@ pub fn write(bw: u64, shared: u64, tagged: u64, k: Worker, page: &mut [u64]) -> 
 fn fails(head: u64, seen: u64, flag: bool) -> bool
     ensures { λ r. ⌜ r ≡ failsB head seen flag ⌝ }
 {
-    if flag {
-        return true;
-    }
-    head != seen
+    flag || head != seen
 }
 
 // The new head: a push's block with the tag seen, or the address seen with the tag wanted.
