@@ -151,6 +151,12 @@ static inline uint64_t *albmerik_entry(uint64_t *page, uint64_t bw, uint64_t a)
     return page + a * bw + 1;
 }
 
+/* The same in a page that is only read. */
+static inline const uint64_t *albmerik_entry_const(const uint64_t *page, uint64_t bw, uint64_t a)
+{
+    return page + a * bw + 1;
+}
+
 #ifdef __cplusplus
 }
 #endif

@@ -1,5 +1,5 @@
 -- How a configuration stands for a state of the simple machine: each head runs over its sequence (demand 2's `Runs`), each
--- record fits its note, and set bits are the blocks in use.
+-- record fits its note, and set bits are the blocks in use (document 01, The simple machine).
 use Prim.Native.Nat.{ℕ, _≤_, _<_}
 use mathlib.Core.Path.{_≡_}
 use mathlib.Core.Logic.{_⊎_}

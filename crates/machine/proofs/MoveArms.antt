@@ -11,6 +11,7 @@ use Rattle.staged.specs.Moves as staged
 use Rattle.machine.specs.Config.{Config, turnOf, putTurn, over, rulesB}
 use Rattle.machine.specs.Table.{moveRefusal}
 use Rattle.machine.specs.Moves.{moveOf}
+use Rattle.machine.specs.Parts.{MovesByTurn}
 use Rattle.machine.proofs.RequestArms.{keeps-lent, over-unless, put-lists-same}
 
 module _ (c : Config) (w : ℕ) (flag : Bool) where
@@ -40,3 +41,6 @@ module _ (c : Config) (w : ℕ) (flag : Bool) where
       go false y p q = refused-2 p
       go true false p q = refused-3 p q
       go true true p q = ap (over (putTurn c w)) e ∙ moves p q
+
+pub moves-by-turn : MovesByTurn
+moves-by-turn c w flag r l = moves c w flag r l

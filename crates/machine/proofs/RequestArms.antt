@@ -21,7 +21,7 @@ use Rattle.staged.specs.Start.{Starter, startFitsB, startAct, startRefusal, sta
 use Rattle.machine.specs.Config.{Config, config, stateOf, blank, workerOf, lentOf, listsOf, starterOf, putLists, putStarter, over, rulesB}
 use Rattle.machine.specs.Table.{insert, pop, append, extend, release, askEmpty, table, argumentsFitB, anyNamed, ownUnsound, linkUnsound, walkBroken, testsOf, requestRefusal}
 use Rattle.machine.specs.Requests.{atOnceAct, requestAct, requestOf}
-use Rattle.machine.specs.Parts.{Asker, askerOf, putAsker, ofLists, atOnceOf, ofStarter, askListsOf, askOf}
+use Rattle.machine.specs.Parts.{Asker, askerOf, putAsker, ofLists, atOnceOf, ofStarter, askListsOf, askOf, RequestsByPart}
 use Rattle.machine.proofs.AskArms.{fit-staged}
 
 -- where the page rules are kept there are at most eight workers
@@ -267,3 +267,6 @@ module _ (c : Config) (w a b : ℕ) where
       go false y p q = refused-2 code p
       go true false p q = refused-3 code p q
       go true true p q = ap (over (putAsker c w)) e ∙ asks code p q
+
+pub requests-by-part : RequestsByPart
+requests-by-part c w code a b r l = asks c w a b code r l

@@ -1,9 +1,10 @@
 -- One worker's part of a request, and T's switch: its record, the head words, the switch and what is lent. The page rules are
 -- tested before.
 use Prim.Native.Nat.{ℕ}
+use mathlib.Core.Path.{_≡_}
 use mathlib.Core.Bool.{Bool, true, false, not, cond}
 use mathlib.Core.List.{List}
-use lib.Dec.{eqb}
+use lib.Dec.{eqb, ltb}
 use Rattle.answers.specs.Numbers.{done, noSuch, busy, switched, notEmpty}
 use Rattle.answers.specs.Rows.{Outcome, outcome, refused}
 use Rattle.words.specs.Tagged.{tagOf, addressOf}
@@ -14,10 +15,13 @@ use Rattle.operations.specs.declared.Worker.{Worker}
 use Rattle.operations.specs.Operations.{stagedB, busyB}
 use Rattle.staged.specs.Start.{Starter, starter, startOf}
 use Rattle.staged.specs.Damage.{Turn, turn}
+use Rattle.staged.specs.Moves as staged
 use Rattle.machine.specs.declared.ask.Asked.{Asked}
 use Rattle.machine.specs.declared.toggle.Toggled.{Toggled}
-use Rattle.machine.specs.Config.{Config, config, workerOf, lentOf, putWorker, withHeads}
+use Rattle.machine.specs.Config.{Config, config, workerOf, lentOf, turnOf, putWorker, putTurn, withHeads, over, rulesB}
 use Rattle.machine.specs.Table.{insert, pop, append, extend, release, argumentsFitB}
+use Rattle.machine.specs.Requests.{requestOf}
+use Rattle.machine.specs.Moves.{moveOf}
 use Rattle.machine.specs.Events.{turnsOn, turnsOff}
 
 -- what a request may change: the worker's record, and what the slices hold
@@ -79,6 +83,19 @@ askListsOf under l code a b =
 unfoldable pub askOf : Bool → Asker → ℕ → ℕ → ℕ → Outcome Asker
 askOf on x code a b =
     cond (stagedB code) (ofStarter x (startOf (x .lent .n) on (starterIn x) code a)) (ofLists x (askListsOf (busyB (x .worker)) (listsIn x) code a b))
+
+-- ---- the whole by its parts
+
+-- past the page rules and the worker, a request is its worker's part of it
+abbrev pub RequestsByPart : Type 0
+RequestsByPart =
+    (c : Config) (w code a b : ℕ) → rulesB c ≡ true → ltb w (c .state .w) ≡ true
+    → over (putAsker c w) (askOf (c .state .on) (askerOf c w) code a b) ≡ requestOf c w code a b
+
+-- and a move is its worker's turn
+abbrev pub MovesByTurn : Type 0
+MovesByTurn =
+    (c : Config) (w : ℕ) (flag : Bool) → rulesB c ≡ true → ltb w (c .state .w) ≡ true → over (putTurn c w) (staged.moveOf (turnOf c w) flag) ≡ moveOf c w flag
 
 -- ---- T's switch: its word and whether it is on
 

@@ -45,7 +45,8 @@ pub struct Asked {
     pub worker: Worker,
 }
 
-// Whether there is such a request, and it has the block, the run or the tag that it asks for.
+// Whether there is such a request, and it has the block, the run or the tag that it asks for: row 4 of the
+// table whole, also of 6 to 12, whose start tests it itself.
 fn arguments_fit(n: u64, code: u64, a: u64, b: u64) -> bool
     ensures { λ r. ⌜ r ≡ argumentsFitB n code a b ⌝ }
 {

@@ -1,4 +1,4 @@
--- The sequences of blocks that lists run over, and how often a block stands in them.
+-- The sequences of blocks that lists run over, and how often a block stands in them (document 01, The page).
 -- `at i` is the word where block i starts; its address is 8 times that.
 use Prim.Native.Nat.{ℕ, zero, suc, _+_, _*_, _≤_, _<_}
 use mathlib.Core.Path.{_≡_}
