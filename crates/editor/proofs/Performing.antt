@@ -1,6 +1,6 @@
 -- Decoding and running, one after the other. Assumes nothing.
 use Prim.Native.Nat.{ℕ, _*_, _≤_}
-use mathlib.Core.Path.{_≡_, sym, ap, _∙_, subst}
+use mathlib.Core.Path.{_≡_, refl, sym, ap, _∙_, subst}
 use mathlib.Core.List.{List}
 use native.Mathlib.Omega.{arith}
 use lib.ListN.{length, take}
@@ -11,7 +11,10 @@ use Rattle.records.proofs.Filling.{Holds, fill-holds}
 use Rattle.machine.specs.declared.Reply.{Reply}
 use Rattle.machine.specs.Config.{Config, config}
 use Rattle.machine.specs.Events.{eventWords, Run, ran, cameRun, eventsOf}
-use Rattle.editor.specs.Chunk.{performed, runOf, performOf}
+use Rattle.editor.specs.Chunk.{KindsAgree, performed, runOf, performOf}
+
+pub kinds-agree : KindsAgree
+kinds-agree = (refl, refl, refl, refl)
 
 -- the records are within the bytes, and their words within the room
 pub filled-holds : (bytes events : List ℕ) {r : Filled} {words : List ℕ} → came r words ≡ fillOf bytes events → Holds bytes events (came r words)

@@ -1,14 +1,20 @@
 -- What comes of some bytes: the events of their records are run, in order (document 01, Checked by hand).
 use Prim.Native.Nat.{ℕ, _*_, _≤_}
+use mathlib.Core.Path.{_≡_}
 use mathlib.Core.List.{List}
 use lib.ListN.{length, take}
+use Rattle.records.specs.Records.{request, move, on, off}
 use Rattle.records.specs.Fill.{Filling, fillOf}
 use Rattle.machine.specs.Config.{Config}
-use Rattle.machine.specs.Events.{eventWords, ran, eventsOf}
+use Rattle.machine.specs.Events.{eventWords, aRequest, aMove, turnsOn, turnsOff, ran, eventsOf}
 
 -- the answers and the text of what is read at once have room: 1,024 records
 abbrev pub Room : List ℕ → List ℕ → List ℕ → Type 0
 Room bytes answers out = (length bytes ≤ 8192) × (2048 ≤ length answers) × (43012 ≤ length out)
+
+-- the kinds that records are decoded to are those of the events that run
+abbrev pub KindsAgree : Type 0
+KindsAgree = (request ≡ aRequest) × (move ≡ aMove) × (on ≡ turnsOn) × (off ≡ turnsOff)
 
 -- how many records were answered, why no more, the configuration afterwards and the answers
 pub record Performed : Type 0 where

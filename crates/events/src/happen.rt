@@ -7,6 +7,8 @@ ghost use Rattle.staged.specs.Damage.{turn};
 ghost use lib.Dec.{ltb};
 ghost use Rattle.machine.specs.Parts.{askListsOf};
 ghost use Rattle.events.specs.Parts.{byWorkerB, turned, happened, quickB, happenOf};
+use crate::A_MOVE;
+use crate::A_REQUEST;
 use answers::NO_WORKER;
 use lists::Heads;
 use machine::ask::ask_lists;
@@ -15,10 +17,6 @@ use operations::Worker;
 use operations::is_staged;
 use staged::moves::make;
 use staged::start::start;
-
-pub const A_REQUEST: u64 = 1;
-
-pub const A_MOVE: u64 = 2;
 
 // An event's words.
 pub struct Event {

@@ -24,6 +24,11 @@ use machine::toggle::TURNS_OFF;
 
 mod happen;
 
+// The kinds of an event; on and off are those of `machine::toggle`.
+pub const A_REQUEST: u64 = 1;
+
+pub const A_MOVE: u64 = 2;
+
 // Words of an event: kind, worker, code, a, b.
 pub const EVENT_WORDS: usize = 5;
 

@@ -17,6 +17,7 @@ use crate::spelling::W;
 use crate::spelling::load;
 use crate::spelling::store;
 use answers::BAD_PAGE;
+use events::A_REQUEST;
 use machine::Reply;
 
 mod spelling;
@@ -27,9 +28,6 @@ pub struct Answer {
     pub number: u64,
     pub value: u64,
 }
-
-// The kind of an event that is a request.
-const A_REQUEST: u64 = 1;
 
 // Writes the state given back unless the number refuses, and hands the answer on.
 fn finish(words: &mut [u64; STATE_WORDS], after: Reply) -> Answer
