@@ -4,3 +4,4 @@ pub mod Relation
 pub mod Every
 pub mod Trail
 pub mod Compare
+pub mod Runs
