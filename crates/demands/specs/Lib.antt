@@ -5,3 +5,4 @@ pub mod Every
 pub mod Trail
 pub mod Compare
 pub mod Runs
+pub mod ByHand
