@@ -16,3 +16,4 @@ pub mod Standing
 pub mod Trails
 pub mod WrongMachines
 pub mod Table
+pub mod RunningEvents

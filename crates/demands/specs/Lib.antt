@@ -4,3 +4,5 @@ pub mod Relation
 pub mod Every
 pub mod Trail
 pub mod Compare
+pub mod Runs
+pub mod ByHand

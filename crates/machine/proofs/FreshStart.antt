@@ -6,31 +6,19 @@ use mathlib.Core.Bool.{Bool, true, false}
 use mathlib.Core.List.{List, []}
 use lib.ListN.{length, getD, replicate, length-replicate}
 use Rattle.answers.specs.Numbers.{done, badPage}
-use Rattle.answers.specs.Rows.{first, Outcome, outcome, refused, answer, all}
+use Rattle.answers.specs.Rows.{first, outcome, refused, answer, all}
 use Rattle.page.specs.Limits.{maxWorkers}
 use Rattle.page.specs.Page.{fitsB}
-use Rattle.machine.specs.Config.{Config, config, workerOf, lentOf, blank, rulesB, freshState, zeroed, freshOf}
+use Rattle.machine.specs.Config.{Config, config, lentOf, blank, rulesB, freshState, zeroed, freshOf}
 use Rattle.machine.specs.Table.{table, testsOf, moveRefusal, onRefusal, offRefusal}
 use Rattle.machine.specs.Requests.{requestOf}
 use Rattle.machine.specs.Moves.{moveOf}
 use Rattle.machine.specs.Switch.{switchOnOf, switchOffOf}
 use Rattle.machine.specs.Readers.{readsB, listedCountOf, firstUnlistedOf, entryRefusal, entryOf, entryAnswerOf, compareRefusal, compareOf}
 use Rattle.machine.specs.Events.{ran, eventsRefusal, eventsOf}
+use Rattle.machine.specs.Starting.{AnswersTwo, BrokenAnswersTwo, ZeroAnswersTwo, Started, FreshDone, FreshRefused}
 
 -- ---- 2 everywhere
-
--- every call is refused with 2 and changes nothing; every reader answers 2, and an entry is empty
-pub record AnswersTwo (c : Config) : Type 0 where
-  pub request : (w code a b : ℕ) → requestOf c w code a b ≡ refused badPage c
-  pub move : (w : ℕ) (flag : Bool) → moveOf c w flag ≡ refused badPage c
-  pub on : switchOnOf c ≡ refused badPage c
-  pub off : switchOffOf c ≡ refused badPage c
-  pub run : (answers events : List ℕ) → eventsOf (ran c answers) events ≡ refused badPage (ran c answers)
-  pub count : listedCountOf (lentOf c) (c .state .w) ≡ answer badPage 0
-  pub unlisted : firstUnlistedOf (lentOf c) (c .state .w) ≡ answer badPage 0
-  pub entry : (a : ℕ) → entryOf (lentOf c) (c .state .w) a ≡ []
-  pub entryAnswer : (a : ℕ) → entryAnswerOf (lentOf c) (c .state .w) a ≡ answer badPage 0
-  pub compare : (a b : ℕ) → compareOf (lentOf c) (c .state .w) a b ≡ answer badPage 0
 
 module _ (c : Config) (e : rulesB c ≡ false) where
   request-two : (w code a b : ℕ) → requestOf c w code a b ≡ refused badPage c
@@ -78,9 +66,8 @@ module _ (c : Config) (e : rulesB c ≡ false) where
   unfolding compareOf compareRefusal first
   compare-two a b = simp reads-not
 
-  -- a page that breaks the rules is answered with 2 everywhere
-  pub broken-answers-two : AnswersTwo c
-  broken-answers-two = record {
+  answers-two : AnswersTwo c
+  answers-two = record {
     request = request-two;
     move = move-two;
     on = on-two;
@@ -93,32 +80,17 @@ module _ (c : Config) (e : rulesB c ≡ false) where
     compare = compare-two;
   }
 
+pub broken-answers-two : BrokenAnswersTwo
+broken-answers-two c e = answers-two c e
+
 zero-breaks : (page bits : List ℕ) → rulesB (config (freshState 0 0 0) page bits) ≡ false
 unfolding rulesB fitsB all
 zero-breaks page bits = refl
 
--- the state whose numbers are all 0 is answered with 2 everywhere, with any page and bitmap
-pub zero-answers-two : (page bits : List ℕ) → AnswersTwo (config (freshState 0 0 0) page bits)
+pub zero-answers-two : ZeroAnswersTwo
 zero-answers-two page bits = broken-answers-two _ (zero-breaks page bits)
 
 -- ---- the fresh start
-
--- heads 0, T off, eight idle workers; every word of the bitmap 0, as many as before, and the page as it was
-pub record Started (n bw w : ℕ) (page bits : List ℕ) (o : Outcome Config) : Type 0 where
-  pub number : o .number ≡ done
-  pub value : o .value ≡ 0
-  pub blocks : o .after .state .n ≡ n
-  pub width : o .after .state .bw ≡ bw
-  pub workers : o .after .state .w ≡ w
-  pub shared : o .after .state .shared ≡ 0
-  pub tagged : o .after .state .tagged ≡ 0
-  pub on : o .after .state .on ≡ false
-  pub records : length (o .after .state .workers) ≡ maxWorkers
-  pub idle : (i : ℕ) → workerOf (o .after) i ≡ blank
-  pub untouched : o .after .page ≡ page
-  pub words : length (o .after .bits) ≡ length bits
-  pub zeros : (k : ℕ) → getD (o .after .bits) k 0 ≡ 0
-  pub rules : rulesB (o .after) ≡ true
 
 -- every element of a list that repeats one is that one
 repeated : {A : Type 0} (m i : ℕ) (x : A) → getD (replicate m x) i x ≡ x
@@ -127,12 +99,6 @@ repeated (suc m) zero x = refl
 repeated (suc m) (suc i) x = repeated m i x
 
 module _ (n bw w : ℕ) (page bits : List ℕ) where
-  -- refused, it writes nothing and answers the state whose numbers are all 0
-  pub fresh-refused : rulesB (config (freshState n bw w) page bits) ≡ false
-      → freshOf n bw w page bits ≡ outcome badPage 0 (config (freshState 0 0 0) page bits)
-  unfolding freshOf
-  fresh-refused e = simp e
-
   fresh-given : rulesB (config (freshState n bw w) page bits) ≡ true
       → freshOf n bw w page bits ≡ outcome done 0 (config (freshState n bw w) page (zeroed bits))
   unfolding freshOf
@@ -160,6 +126,9 @@ module _ (n bw w : ℕ) (page bits : List ℕ) where
     rules = zeroed-rules e;
   }
 
-  -- done, where the page rules hold
-  pub fresh-done : rulesB (config (freshState n bw w) page bits) ≡ true → Started n bw w page bits (freshOf n bw w page bits)
-  fresh-done e = rw (fresh-given e) (given-started e)
+pub fresh-done : FreshDone
+fresh-done n bw w page bits e = rw (fresh-given n bw w page bits e) (given-started n bw w page bits e)
+
+pub fresh-refused : FreshRefused
+unfolding freshOf
+fresh-refused n bw w page bits e = simp e

@@ -30,7 +30,7 @@ pub one-answer : OneAnswer
 one-answer A d x y p q = p ∙ sym q
 
 -- a number that is not 0 is given exactly if its row applies and none above does
-first-exactly : (k : ℕ) (rows : List Row) → k ≢ 0 → (first rows ≡ k) ↔ FirstAt k rows
+pub first-exactly : (k : ℕ) (rows : List Row) → k ≢ 0 → (first rows ≡ k) ↔ FirstAt k rows
 unfolding first
 first-exactly k [] n = (λ e. absurd (n (sym e)), λ x. absurd x)
 first-exactly k (r ∷ rows) n = go (r .applies) refl (first-exactly k rows n)

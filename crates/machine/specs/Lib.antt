@@ -8,3 +8,4 @@ pub mod Readers
 pub mod Events
 pub mod Total
 pub mod Leaves
+pub mod Starting
