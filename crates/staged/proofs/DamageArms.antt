@@ -7,10 +7,11 @@ use native.Mathlib.Omega.{arith}
 use native.Mathlib.Numerals.{add-one}
 use lib.Dec.{eqb}
 use lib.ListN.{getD, drop}
-use borrow.Author.Tests.{ltb-false, not-false}
-use Rattle.answers.proofs.Rows.{and-left}
+use borrow.Author.Tests.{eqb-true, ltb-false, not-false}
+use Rattle.answers.proofs.Rows.{and-left, and-right}
 use Rattle.page.specs.Limits.{maxBlocks}
 use Rattle.page.specs.Page.{Rules, blockB, listedB}
+use Rattle.page.specs.Sequences.{Listed}
 use Rattle.page.proofs.Rules.{block-facts}
 use Rattle.staged.specs.Operations.{setTag, maxTag, pushesB, fullB, writing, pairedB}
 use Rattle.staged.specs.Damage.{Turn, any, handBad, tagBad, damageTests, damagedB}
@@ -23,7 +24,7 @@ or-left : (a b : Bool) → a || b ≡ false → a ≡ false
 or-left true b e = e
 or-left false b e = refl
 
-or-right : (a b : Bool) → a || b ≡ false → b ≡ false
+pub or-right : (a b : Bool) → a || b ≡ false → b ≡ false
 or-right true false e = refl
 or-right true true e = e
 or-right false b e = e
@@ -80,7 +81,7 @@ module _ (t : Turn) where
 
 module _ (t : Turn) (d : damagedB t ≡ false) where
   -- of its tests none does
-  passes : (i : ℕ) → getD (damageTests t) i false ≡ false
+  pub passes : (i : ℕ) → getD (damageTests t) i false ≡ false
   unfolding damagedB
   passes i = none-at (damageTests t) i d
 
@@ -88,12 +89,14 @@ module _ (t : Turn) (d : damagedB t ≡ false) where
   pub is-paired : pairedB (t .worker .operation) (t .worker .stage) ≡ true
   is-paired = not-false _ (passes 0)
 
-  -- a push's block is one of the page
-  pub hand-high : pushesB (t .worker .operation) ≡ true → t .worker .hand ≤ t .lent .n
+  -- a push's block is 1 to n and its bit is set
+  pub hand-listed : pushesB (t .worker .operation) ≡ true → Listed (t .lent) (t .worker .hand)
   unfolding handBad
-  hand-high p =
-      let e : not (blockB (t .lent .n) (t .worker .hand) && listedB (t .lent .bits) (t .worker .hand)) ≡ false = simp p at (passes 1) in
-      block-facts (t .lent .n) (t .worker .hand) (and-left _ _ (not-false _ e)) .1
+  hand-listed p =
+      let within = blockB (t .lent .n) (t .worker .hand) in
+      let e : not (within && listedB (t .lent .bits) (t .worker .hand)) ≡ false = simp p at (passes 1) in
+      let b = block-facts (t .lent .n) (t .worker .hand) (and-left _ _ (not-false _ e)) in
+      record { low = b .0; high = b .1; bit = eqb-true _ _ (and-right within _ (not-false _ e)) }
 
   -- a wanted tag is at most 3
   pub tag-small : eqb (t .worker .operation) setTag ≡ true → t .worker .tag ≤ maxTag
@@ -102,7 +105,7 @@ module _ (t : Turn) (d : damagedB t ≡ false) where
 
   -- what the new head rests on
   pub fitting : Rules (t .lent) → Fitting (t .worker) (t .lent .bw)
-  fitting r = record { narrow = r .narrow; hand = λ p. omega (arith, hand-high p); tag = tag-small }
+  fitting r = record { narrow = r .narrow; hand = λ p. omega (arith, hand-listed p .high); tag = tag-small }
 
   -- at write there is a block in hand
   pub writes : Rules (t .lent) → t .worker .stage ≡ writing → t .worker .hand ≤ maxBlocks

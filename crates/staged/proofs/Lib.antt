@@ -4,3 +4,4 @@ pub mod DamageArms
 pub mod StageArms
 pub mod MoveArms
 pub mod Sequences
+pub mod Examples

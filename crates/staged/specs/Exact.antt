@@ -1,21 +1,22 @@
--- Demand 2 for pushes, takes and tags: the exact sequences at each moment, in document 01's words. Premises: the move is not
--- refused, the list concerned runs over sound addresses to 0, and at a push's exchange the block in hand is listed, on none of
--- them, and its link is the address part of the word seen. No proof stands in this file.
+-- Demand 2 for pushes, takes and tags: the exact sequences at each moment, and all that a move leaves, in document 01's words.
+-- Premises: the move is not refused, the list concerned runs over sound addresses to 0, and at a push's exchange the block in
+-- hand is on none of them and its link is the address part of the word seen. No proof stands in this file.
 use Prim.Native.Nat.{ℕ, _+_, _<_}
 use mathlib.Core.Path.{_≡_}
-use mathlib.Core.Bool.{Bool, true, false, cond}
+use mathlib.Core.Bool.{Bool, true, false, _||_, cond}
 use mathlib.Core.List.{List, [], _∷_}
 use lib.Dec.{eqb}
-use lib.ListN.{getD}
+use lib.ListN.{getD, set}
 use Rattle.answers.specs.Numbers.{done, underWay}
 use Rattle.answers.specs.Rows.{Outcome}
 use Rattle.words.specs.Tagged.{tagOf, addressOf, freeing, noDelayedFree, useDelayedFree}
 use Rattle.bitmap.specs.Bitmap.{bitPut}
-use Rattle.page.specs.Page.{Rules, place}
-use Rattle.page.specs.Sequences.{times, Listed, Runs, OthersRun}
-use Rattle.staged.specs.Operations.{pushesB, onSharedB, takeShared, takeTagged, setTag, askTag, awaitTag, loading, writing, exchanging, swapping, masking, wordOf}
+use Rattle.page.specs.Page.{lent, place}
+use Rattle.page.specs.Sequences.{times, Runs, OthersRun}
+use Rattle.staged.specs.declared.Worker.{Worker}
+use Rattle.staged.specs.Operations.{pushesB, pushShared, takeShared, pushTagged, takeTagged, setTag, askTag, awaitTag, loading, writing, exchanging, swapping, masking}
 use Rattle.staged.specs.Start.{Starter, startRefusal, startOf}
-use Rattle.staged.specs.Damage.{Turn, headWord}
+use Rattle.staged.specs.Damage.{Turn}
 use Rattle.staged.specs.Moves.{moveRefusal, moveOf}
 
 -- the front block, 0 of an empty list
@@ -23,17 +24,32 @@ abbrev pub front : List ℕ → ℕ
 front [] = 0
 front (x ∷ xs) = x
 
--- A start sets every field but own and got afresh; unused ones are 0.
+-- the head word of an operation: S for 6 and 7, else T
+abbrev pub headOf : ℕ → Turn → ℕ
+headOf op t = cond (eqb op pushShared || eqb op takeShared) (t .shared) (t .tagged)
+
+-- ---- a start
+
+-- every field but own and got set afresh: the stage masking for 9, else loading; a tag for 10; a hand for 6 and 8; the others 0
+abbrev pub afresh : ℕ → ℕ → ℕ → ℕ → Worker
+afresh own got op a =
+    record {
+      own = own;
+      got = got;
+      operation = op;
+      stage = cond (eqb op takeTagged) masking loading;
+      tag = cond (eqb op setTag) a 0;
+      hand = cond (eqb op pushShared || eqb op pushTagged) a 0;
+      seen = 0;
+      sightings = 0;
+    }
+
+-- A start sets every field but own and got afresh; for 6 and 8 the block's bit is set, and no other bit changes.
 pub record SetAfresh (c : Starter) (op a : ℕ) (o : Outcome Starter) : Type 0 where
   pub number : o .number ≡ underWay
   pub value : o .value ≡ 0
-  pub own : o .after .worker .own ≡ c .worker .own
-  pub got : o .after .worker .got ≡ c .worker .got
-  pub operation : o .after .worker .operation ≡ op
-  pub tag : o .after .worker .tag ≡ cond (eqb op setTag) a 0
-  pub hand : o .after .worker .hand ≡ cond (pushesB op) a 0
-  pub seen : o .after .worker .seen ≡ 0
-  pub sightings : o .after .worker .sightings ≡ 0
+  pub worker : o .after .worker ≡ afresh (c .worker .own) (c .worker .got) op a
+  pub bits : o .after .bits ≡ cond (eqb op pushShared || eqb op pushTagged) (bitPut (c .bits) a 1) (c .bits)
 
 abbrev pub StartSetsAfresh : Type 0
 StartSetsAfresh = (n : ℕ) (on : Bool) (c : Starter) (op a : ℕ) → startRefusal n on c op a ≡ 0 → SetAfresh c op a (startOf n on c op a)
@@ -50,123 +66,179 @@ pub record HandTaken (c : Starter) (a : ℕ) (o : Outcome Starter) : Type 0 wher
 abbrev pub PushTakesInHand : Type 0
 PushTakesInHand = (n : ℕ) (on : Bool) (c : Starter) (op a : ℕ) → pushesB op ≡ true → startRefusal n on c op a ≡ 0 → HandTaken c a (startOf n on c op a)
 
--- the head word of the operation under way, after a move
-abbrev pub headAfter : Turn → Outcome Turn → ℕ
-headAfter t o = wordOf (t .worker .operation) (o .after .shared) (o .after .tagged)
+-- ---- what every move that goes on leaves, and every move that ends its operation
+
+-- the record with another stage, word seen and count of sightings; no other field changes
+abbrev pub onward : Worker → ℕ → ℕ → ℕ → Worker
+onward k stage seen sightings =
+    record { own = k .own; got = k .got; operation = k .operation; stage = stage; tag = k .tag; hand = k .hand; seen = seen; sightings = sightings }
+
+-- Under way: value 0, and nothing but the stage, the word seen and the sightings may change.
+pub record GoesOn (t : Turn) (stage seen sightings : ℕ) (o : Outcome Turn) : Type 0 where
+  pub number : o .number ≡ underWay
+  pub value : o .value ≡ 0
+  pub worker : o .after .worker ≡ onward (t .worker) stage seen sightings
+  pub shared : o .after .shared ≡ t .shared
+  pub tagged : o .after .tagged ≡ t .tagged
+  pub on : o .after .on ≡ t .on
+  pub lent : o .after .lent ≡ t .lent
+
+-- every field but own and got is 0
+abbrev pub atRest : ℕ → ℕ → Worker
+atRest own got = record { own = own; got = got; operation = 0; stage = 0; tag = 0; hand = 0; seen = 0; sightings = 0 }
+
+-- Done with a value: an end sets every field but own and got to 0; got, S and T are the words given, and nothing else changes.
+pub record Ends (t : Turn) (v got toS toT : ℕ) (o : Outcome Turn) : Type 0 where
+  pub number : o .number ≡ done
+  pub value : o .value ≡ v
+  pub worker : o .after .worker ≡ atRest (t .worker .own) got
+  pub shared : o .after .shared ≡ toS
+  pub tagged : o .after .tagged ≡ toT
+  pub on : o .after .on ≡ t .on
+  pub lent : o .after .lent ≡ t .lent
+
+-- A load that ends its operation tells a value; got, S and T stay.
+abbrev pub Told : Turn → ℕ → Outcome Turn → Type 0
+Told t v o = Ends t v (t .worker .got) (t .shared) (t .tagged) o
+
+-- ---- a load that does not end its operation stores the word seen
+
+-- The word is stored, the next move is another stage, and nothing else changes.
+abbrev pub Loaded : Turn → ℕ → ℕ → Outcome Turn → Type 0
+Loaded t word stage o = GoesOn t stage word (t .worker .sightings) o
+
+-- 6 and 8: the next move writes the link
+abbrev pub PushLoads : Type 0
+PushLoads =
+    (t : Turn) (flag : Bool) → pushesB (t .worker .operation) ≡ true → t .worker .stage ≡ loading → moveRefusal t ≡ 0
+    → Loaded t (headOf (t .worker .operation) t) writing (moveOf t flag)
+
+-- 7, where S is not 0: the next move swaps
+abbrev pub TakeLoads : Type 0
+TakeLoads =
+    (t : Turn) (flag : Bool) → t .worker .operation ≡ takeShared → t .worker .stage ≡ loading → moveRefusal t ≡ 0 → (t .shared ≡ 0 → ⊥)
+    → Loaded t (t .shared) swapping (moveOf t flag)
+
+-- 10: the next move exchanges, whatever the tag
+abbrev pub SetLoads : Type 0
+SetLoads =
+    (t : Turn) (flag : Bool) → t .worker .operation ≡ setTag → t .worker .stage ≡ loading → moveRefusal t ≡ 0
+    → Loaded t (t .tagged) exchanging (moveOf t flag)
+
+-- 11 at tag 2: the next move exchanges
+abbrev pub AskLoads : Type 0
+AskLoads =
+    (t : Turn) (flag : Bool) → t .worker .operation ≡ askTag → t .worker .stage ≡ loading → moveRefusal t ≡ 0 → tagOf (t .tagged) ≡ noDelayedFree
+    → Loaded t (t .tagged) exchanging (moveOf t flag)
+
+-- 12 at tag 1: the next move loads again
+abbrev pub WaitLoads : Type 0
+WaitLoads =
+    (t : Turn) (flag : Bool) → t .worker .operation ≡ awaitTag → t .worker .stage ≡ loading → moveRefusal t ≡ 0 → tagOf (t .tagged) ≡ freeing
+    → Loaded t (t .tagged) loading (moveOf t flag)
+
+-- ---- the write of a push
 
 -- The write gives the block in hand the address part of the word seen for its link, and changes no other word: every list that
 -- the block is not on keeps its sequence.
 pub record Linked (t : Turn) (o : Outcome Turn) : Type 0 where
   pub number : o .number ≡ underWay
   pub value : o .value ≡ 0
-  pub stage : o .after .worker .stage ≡ exchanging
+  pub worker : o .after .worker ≡ onward (t .worker) exchanging (t .worker .seen) (t .worker .sightings)
   pub link : getD (o .after .lent .page) (place (t .lent .bw) (t .worker .hand)) 0 ≡ addressOf (t .worker .seen)
-  pub others : (i : ℕ) → (i ≡ place (t .lent .bw) (t .worker .hand) → ⊥) → getD (o .after .lent .page) i 0 ≡ getD (t .lent .page) i 0
   pub lists : OthersRun (t .lent) (o .after .lent) (t .worker .hand ∷ [])
-  pub bits : o .after .lent .bits ≡ t .lent .bits
+  pub lent : o .after .lent
+      ≡ lent (t .lent .n) (t .lent .bw) (set (t .lent .page) (place (t .lent .bw) (t .worker .hand)) (addressOf (t .worker .seen))) (t .lent .bits)
   pub shared : o .after .shared ≡ t .shared
   pub tagged : o .after .tagged ≡ t .tagged
+  pub on : o .after .on ≡ t .on
 
 abbrev pub WriteLinksToSeen : Type 0
-WriteLinksToSeen =
-    (t : Turn) (flag : Bool) → Rules (t .lent) → t .worker .stage ≡ writing → moveRefusal t ≡ 0 → Listed (t .lent) (t .worker .hand) → Linked t (moveOf t flag)
+WriteLinksToSeen = (t : Turn) (flag : Bool) → t .worker .stage ≡ writing → moveRefusal t ≡ 0 → Linked t (moveOf t flag)
 
--- A failed exchange changes only the stage: where the flag is set, and where the head is not the word seen.
-pub record OnlyStage (t : Turn) (stage : ℕ) (o : Outcome Turn) : Type 0 where
-  pub number : o .number ≡ underWay
-  pub value : o .value ≡ 0
-  pub next : o .after .worker .stage ≡ stage
-  pub own : o .after .worker .own ≡ t .worker .own
-  pub got : o .after .worker .got ≡ t .worker .got
-  pub operation : o .after .worker .operation ≡ t .worker .operation
-  pub tag : o .after .worker .tag ≡ t .worker .tag
-  pub hand : o .after .worker .hand ≡ t .worker .hand
-  pub seen : o .after .worker .seen ≡ t .worker .seen
-  pub sightings : o .after .worker .sightings ≡ t .worker .sightings
-  pub shared : o .after .shared ≡ t .shared
-  pub tagged : o .after .tagged ≡ t .tagged
-  pub lent : o .after .lent ≡ t .lent
+-- ---- a failed exchange
 
+-- A failure changes only the stage: the next move loads again.
+abbrev pub OnlyStage : Turn → ℕ → Outcome Turn → Type 0
+OnlyStage t stage o = GoesOn t stage (t .worker .seen) (t .worker .sightings) o
+
+-- an exchange with the flag set fails
 abbrev pub FlagFails : Type 0
 FlagFails = (t : Turn) → t .worker .stage ≡ exchanging → moveRefusal t ≡ 0 → OnlyStage t loading (moveOf t true)
 
+-- an exchange fails where the head differs from the word seen
 abbrev pub OtherWordFails : Type 0
 OtherWordFails =
-    (t : Turn) (flag : Bool) → t .worker .stage ≡ exchanging → moveRefusal t ≡ 0 → (headWord t ≡ t .worker .seen → ⊥) → OnlyStage t loading (moveOf t flag)
+    (t : Turn) (flag : Bool) → t .worker .stage ≡ exchanging → moveRefusal t ≡ 0 → (headOf (t .worker .operation) t ≡ t .worker .seen → ⊥)
+    → OnlyStage t loading (moveOf t flag)
 
--- the other head word
-abbrev pub otherHead : Turn → Turn → ℕ
-otherHead t u = cond (onSharedB (t .worker .operation)) (u .tagged) (u .shared)
+-- ---- a successful exchange of a push
 
--- A successful exchange puts the block in hand at the front, tag kept, and the hand is empty; no page word, no bit and no other
--- head changes, so every other list keeps its sequence.
-pub record Pushed (t : Turn) (xs : List ℕ) (o : Outcome Turn) : Type 0 where
-  pub number : o .number ≡ done
-  pub hand : o .after .worker .hand ≡ 0
-  pub own : o .after .worker .own ≡ t .worker .own
-  pub got : o .after .worker .got ≡ t .worker .got
-  pub other : otherHead t (o .after) ≡ otherHead t t
-  pub value : o .value ≡ tagOf (headWord t)
-  pub list : Runs (o .after .lent) (addressOf (headAfter t o)) (t .worker .hand ∷ xs)
-  pub tag : tagOf (headAfter t o) ≡ tagOf (headWord t)
-  pub lent : o .after .lent ≡ t .lent
+-- What document 01 asks of the block in hand: it is on none of the lists, and its link is the address part of the word seen. The
+-- first follows from the second where the list runs, and stands here because the document names it.
+pub record HandReady (t : Turn) (xs : List ℕ) : Type 0 where
+  pub apart : times (t .worker .hand) xs ≡ 0
+  pub link : getD (t .lent .page) (place (t .lent .bw) (t .worker .hand)) 0 ≡ addressOf (t .worker .seen)
 
+-- 6: the block in hand is at the front of S, value 0; no page word, no bit and no other head changes, so every other list keeps
+-- its sequence
+pub record SharedPushed (t : Turn) (xs : List ℕ) (o : Outcome Turn) : Type 0 where
+  pub ends : Ends t 0 (t .worker .got) (o .after .shared) (t .tagged) o
+  pub list : Runs (o .after .lent) (o .after .shared) (t .worker .hand ∷ xs)
+
+abbrev pub PutsFirstOnShared : Type 0
+PutsFirstOnShared =
+    (t : Turn) (xs : List ℕ) → t .worker .operation ≡ pushShared → t .worker .stage ≡ exchanging → moveRefusal t ≡ 0 → t .shared ≡ t .worker .seen
+    → Runs (t .lent) (t .shared) xs → HandReady t xs → SharedPushed t xs (moveOf t false)
+
+-- 8: the same on T, tag kept, value the tag
+pub record TaggedPushed (t : Turn) (xs : List ℕ) (o : Outcome Turn) : Type 0 where
+  pub ends : Ends t (tagOf (t .tagged)) (t .worker .got) (t .shared) (o .after .tagged) o
+  pub list : Runs (o .after .lent) (addressOf (o .after .tagged)) (t .worker .hand ∷ xs)
+  pub tag : tagOf (o .after .tagged) ≡ tagOf (t .tagged)
+
+abbrev pub PutsFirstOnTagged : Type 0
+PutsFirstOnTagged =
+    (t : Turn) (xs : List ℕ) → t .worker .operation ≡ pushTagged → t .worker .stage ≡ exchanging → moveRefusal t ≡ 0 → t .tagged ≡ t .worker .seen
+    → Runs (t .lent) (addressOf (t .tagged)) xs → HandReady t xs → TaggedPushed t xs (moveOf t false)
+
+-- A push puts its block to the front.
 abbrev pub ExchangePutsFirst : Type 0
-ExchangePutsFirst =
-    (t : Turn) (xs : List ℕ) → pushesB (t .worker .operation) ≡ true → t .worker .stage ≡ exchanging → moveRefusal t ≡ 0 → headWord t ≡ t .worker .seen
-    → Runs (t .lent) (addressOf (headWord t)) xs → Listed (t .lent) (t .worker .hand) → times (t .worker .hand) xs ≡ 0
-    → getD (t .lent .page) (place (t .lent .bw) (t .worker .hand)) 0 ≡ addressOf (t .worker .seen) → Pushed t xs (moveOf t false)
+ExchangePutsFirst = PutsFirstOnShared × PutsFirstOnTagged
 
--- A load of 7 that finds S empty ends with value 0, and nothing of S or got changes.
-pub record NothingTaken (t : Turn) (o : Outcome Turn) : Type 0 where
-  pub number : o .number ≡ done
-  pub value : o .value ≡ 0
-  pub got : o .after .worker .got ≡ t .worker .got
-  pub shared : o .after .shared ≡ t .shared
-  pub lent : o .after .lent ≡ t .lent
+-- ---- takes
 
+-- 7: a load that finds S empty ends with value 0, and got stays as it was
 abbrev pub TakeFindsNone : Type 0
 TakeFindsNone =
     (t : Turn) (flag : Bool) → t .worker .operation ≡ takeShared → t .worker .stage ≡ loading → moveRefusal t ≡ 0 → t .shared ≡ 0
-    → NothingTaken t (moveOf t flag)
+    → Told t 0 (moveOf t flag)
 
 -- A take of S yields the whole list and leaves S empty.
 pub record SharedTaken (t : Turn) (xs : List ℕ) (o : Outcome Turn) : Type 0 where
-  pub number : o .number ≡ done
-  pub own : o .after .worker .own ≡ t .worker .own
-  pub value : o .value ≡ front xs
-  pub got : Runs (o .after .lent) (o .after .worker .got) xs
-  pub shared : o .after .shared ≡ 0
-  pub tagged : o .after .tagged ≡ t .tagged
-  pub lent : o .after .lent ≡ t .lent
+  pub ends : Ends t (front xs) (t .shared) 0 (t .tagged) o
+  pub list : Runs (o .after .lent) (o .after .worker .got) xs
 
 abbrev pub TakeYieldsShared : Type 0
 TakeYieldsShared =
-    (t : Turn) (flag : Bool) (xs : List ℕ) → Rules (t .lent) → t .worker .operation ≡ takeShared → t .worker .stage ≡ swapping → moveRefusal t ≡ 0
+    (t : Turn) (flag : Bool) (xs : List ℕ) → t .worker .operation ≡ takeShared → t .worker .stage ≡ swapping → moveRefusal t ≡ 0
     → Runs (t .lent) (t .shared) xs → SharedTaken t xs (moveOf t flag)
 
 -- A take of T yields the whole list and keeps the tag.
 pub record TaggedTaken (t : Turn) (xs : List ℕ) (o : Outcome Turn) : Type 0 where
-  pub number : o .number ≡ done
-  pub own : o .after .worker .own ≡ t .worker .own
-  pub value : o .value ≡ front xs
-  pub got : Runs (o .after .lent) (o .after .worker .got) xs
-  pub tagged : o .after .tagged ≡ tagOf (t .tagged)
-  pub shared : o .after .shared ≡ t .shared
-  pub lent : o .after .lent ≡ t .lent
+  pub ends : Ends t (front xs) (addressOf (t .tagged)) (t .shared) (tagOf (t .tagged)) o
+  pub list : Runs (o .after .lent) (o .after .worker .got) xs
 
 abbrev pub TakeYieldsTagged : Type 0
 TakeYieldsTagged =
-    (t : Turn) (flag : Bool) (xs : List ℕ) → Rules (t .lent) → t .worker .operation ≡ takeTagged → t .worker .stage ≡ masking → moveRefusal t ≡ 0
+    (t : Turn) (flag : Bool) (xs : List ℕ) → t .worker .operation ≡ takeTagged → t .worker .stage ≡ masking → moveRefusal t ≡ 0
     → Runs (t .lent) (addressOf (t .tagged)) xs → TaggedTaken t xs (moveOf t flag)
 
--- Set tag, ask and wait answer as document 01 says, and the list on T stays.
-pub record TagPut (t : Turn) (v tag : ℕ) (o : Outcome Turn) : Type 0 where
-  pub number : o .number ≡ done
-  pub value : o .value ≡ v
-  pub tagged : o .after .tagged ≡ addressOf (t .tagged) + tag
-  pub shared : o .after .shared ≡ t .shared
-  pub lent : o .after .lent ≡ t .lent
+-- ---- tags: set tag, ask and wait answer as document 01 says, and the list on T stays
+
+-- An exchange puts a tag.
+abbrev pub TagPut : Turn → ℕ → ℕ → Outcome Turn → Type 0
+TagPut t v tag o = Ends t v (t .worker .got) (t .shared) (addressOf (t .tagged) + tag) o
 
 -- 10: the tag becomes the wanted one, whatever it was; value the tag before
 abbrev pub SetPutsTag : Type 0
@@ -180,27 +252,13 @@ AskPutsZero =
     (t : Turn) → t .worker .operation ≡ askTag → t .worker .stage ≡ exchanging → moveRefusal t ≡ 0 → t .tagged ≡ t .worker .seen
     → TagPut t 1 useDelayedFree (moveOf t false)
 
--- A load that ends its operation tells a value; T and what is lent stay.
-pub record Told (t : Turn) (v : ℕ) (o : Outcome Turn) : Type 0 where
-  pub number : o .number ≡ done
-  pub value : o .value ≡ v
-  pub free : o .after .worker .operation ≡ 0
-  pub tagged : o .after .tagged ≡ t .tagged
-  pub lent : o .after .lent ≡ t .lent
-
--- 11: four sightings of tag 1 are counted, and the fifth ends with value 0
-pub record Sighted (t : Turn) (count : ℕ) (o : Outcome Turn) : Type 0 where
-  pub number : o .number ≡ underWay
-  pub sightings : o .after .worker .sightings ≡ count
-  pub operation : o .after .worker .operation ≡ askTag
-  pub stage : o .after .worker .stage ≡ loading
-  pub tagged : o .after .tagged ≡ t .tagged
-
+-- 11: four sightings of tag 1 are counted, each stores the word seen, and the next move loads again
 abbrev pub SightingIsCounted : Type 0
 SightingIsCounted =
-    (t : Turn) (flag : Bool) (count : ℕ) → t .worker .operation ≡ askTag → t .worker .stage ≡ loading → moveRefusal t ≡ 0 → tagOf (t .tagged) ≡ freeing
-    → t .worker .sightings ≡ count → count < 4 → Sighted t (count + 1) (moveOf t flag)
+    (t : Turn) (flag : Bool) → t .worker .operation ≡ askTag → t .worker .stage ≡ loading → moveRefusal t ≡ 0 → tagOf (t .tagged) ≡ freeing
+    → t .worker .sightings < 4 → GoesOn t loading (t .tagged) (t .worker .sightings + 1) (moveOf t flag)
 
+-- 11: the fifth sighting ends it with value 0
 abbrev pub FifthSightingEnds : Type 0
 FifthSightingEnds =
     (t : Turn) (flag : Bool) → t .worker .operation ≡ askTag → t .worker .stage ≡ loading → moveRefusal t ≡ 0 → tagOf (t .tagged) ≡ freeing
