@@ -156,15 +156,17 @@ pub record Linked (t : Turn) (o : Outcome Turn) : Type 0 where
 abbrev pub WriteLinksToSeen : Type 0
 WriteLinksToSeen = (t : Turn) (flag : Bool) → t .worker .stage ≡ writing → moveRefusal t ≡ 0 → Linked t (moveOf t flag)
 
--- ---- a failed exchange: where the flag is set, and where the head is not the word seen
+-- ---- a failed exchange
 
--- A failure changes only the stage.
+-- A failure changes only the stage: the next move loads again.
 abbrev pub OnlyStage : Turn → ℕ → Outcome Turn → Type 0
 OnlyStage t stage o = GoesOn t stage (t .worker .seen) (t .worker .sightings) o
 
+-- an exchange with the flag set fails
 abbrev pub FlagFails : Type 0
 FlagFails = (t : Turn) → t .worker .stage ≡ exchanging → moveRefusal t ≡ 0 → OnlyStage t loading (moveOf t true)
 
+-- an exchange fails where the head differs from the word seen
 abbrev pub OtherWordFails : Type 0
 OtherWordFails =
     (t : Turn) (flag : Bool) → t .worker .stage ≡ exchanging → moveRefusal t ≡ 0 → (headOf (t .worker .operation) t ≡ t .worker .seen → ⊥)
@@ -178,7 +180,8 @@ pub record HandReady (t : Turn) (xs : List ℕ) : Type 0 where
   pub apart : times (t .worker .hand) xs ≡ 0
   pub link : getD (t .lent .page) (place (t .lent .bw) (t .worker .hand)) 0 ≡ addressOf (t .worker .seen)
 
--- 6: the block in hand is at the front of S, value 0; no page word, no bit and not T changes, so every other list keeps its sequence
+-- 6: the block in hand is at the front of S, value 0; no page word, no bit and no other head changes, so every other list keeps
+-- its sequence
 pub record SharedPushed (t : Turn) (xs : List ℕ) (o : Outcome Turn) : Type 0 where
   pub ends : Ends t 0 (t .worker .got) (o .after .shared) (t .tagged) o
   pub list : Runs (o .after .lent) (o .after .shared) (t .worker .hand ∷ xs)
