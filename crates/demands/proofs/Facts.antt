@@ -11,7 +11,6 @@ use Rattle.words.specs.Tagged.{addressOf}
 use Rattle.bitmap.specs.Bitmap.{bitAt}
 use Rattle.bitmap.proofs.Bits.{bit-lt}
 use Rattle.page.specs.Page.{soundIn}
-use Rattle.page.specs.Page as page
 use Rattle.page.specs.Sequences.{times, Listed}
 use Rattle.page.proofs.Running.{run-sound}
 use Rattle.machine.specs.Config.{Config, lentOf, workerOf}

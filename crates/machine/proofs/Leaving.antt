@@ -15,7 +15,7 @@ use Rattle.machine.specs.Config.{Config, turnOf, putTurn, over, blank}
 use Rattle.machine.specs.Table.{requestRefusal, moveRefusal}
 use Rattle.machine.specs.Requests.{requestAct, requestOf}
 use Rattle.machine.specs.Moves.{moveOf}
-use Rattle.machine.specs.Leaves.{OtherRecords, RequestLeaves, RequestsLeaveHeads, StartsLeavePage, MoveLeaves, MovesLeaveBits}
+use Rattle.machine.specs.Leaves.{RequestLeaves, RequestsLeaveHeads, StartsLeavePage, MoveLeaves, MovesLeaveBits}
 use Rattle.machine.proofs.Unchanged.{pick}
 
 request-act-leaves : (c : Config) (w code a b : ℕ) → RequestLeaves w c (requestAct c w code a b .after)

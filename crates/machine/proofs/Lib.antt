@@ -10,3 +10,4 @@ pub mod Entries
 pub mod Totals
 pub mod Unchanged
 pub mod Leaving
+pub mod Examples

@@ -3,7 +3,7 @@
 use Prim.Native.Nat.{ℕ, _+_, _-_, _*_, _/_, _%_, _≤_, _<_}
 use mathlib.Core.Path.{_≡_, refl, sym, ap, _∙_}
 use mathlib.Core.Logic.{_≢_, _↔_}
-use mathlib.Core.Bool.{Bool, true, false, _&&_, cond, true≢false}
+use mathlib.Core.Bool.{true, false, _&&_, cond}
 use mathlib.Core.List.{[], _∷_}
 use native.Mathlib.Nat.{mul-left-comm, mul-comm, mul-assoc, mul-pos, mul-le-mul, mul-le-mul-right, mul-lt-mul-of-pos-right, eq-of-mul-eq-mul-right, div-add-mod', div-le-of-le-mul, le-div-iff-mul-le, mul-div-cancel, mul-div-mul-left, mul-mod-left}
 use native.Mathlib.Omega.{arith}
