@@ -11,3 +11,4 @@ pub mod Totals
 pub mod Unchanged
 pub mod Leaving
 pub mod Examples
+pub mod RunsKeep

@@ -46,7 +46,7 @@ or-right true y q = absurd (true≢false q)
 or-right false y q = q
 
 -- the same configuration
-kept-refl : (c : Config) → NeverChanges c c
+pub kept-refl : (c : Config) → NeverChanges c c
 kept-refl c = record { lent = keeps-refl (lentOf c); w = refl; records = λ u l. refl }
 
 -- one worker's record put back does not reach the records from W on

@@ -18,6 +18,7 @@ use Rattle.machine.specs.Table.{pop, testsOf, anyBusy}
 use Rattle.machine.specs.Requests.{requestOf}
 use Rattle.machine.specs.Moves.{moveOf}
 use Rattle.machine.specs.Switch.{switchOnOf, switchOffOf}
+use Rattle.machine.specs.Events.{Run, eventsOf}
 
 -- a contract that is an equation with a definition permits one answer: two that meet it are equal
 abbrev pub OneAnswer : Type 1
@@ -82,3 +83,7 @@ abbrev pub AllKept : Type 0
 AllKept =
     ((c : Config) (w code a b : ℕ) → NeverChanges c (requestOf c w code a b .after)) × ((c : Config) (w : ℕ) (flag : Bool) → NeverChanges c (moveOf c w flag .after))
     × ((c : Config) → NeverChanges c (switchOnOf c .after)) × ((c : Config) → NeverChanges c (switchOffOf c .after))
+
+-- and under every run of events
+abbrev pub RunsKept : Type 0
+RunsKept = (r : Run) (events : List ℕ) → NeverChanges (r .config) (eventsOf r events .after .config)
