@@ -14,8 +14,13 @@ use Rattle.staged.specs.Damage.{Turn, turn}
 use Rattle.staged.specs.Moves.{moveOf}
 use Rattle.machine.specs.Events.{eventWords, aRequest, aMove, flagOf}
 use Rattle.machine.specs.Parts.{toggleOf, ofToggled}
+use Rattle.events.specs.declared.happen.Common.{Common}
 use Rattle.events.specs.declared.happen.Event.{Event}
 use Rattle.events.specs.declared.happen.Turned.{Turned}
+
+-- the record of the code: S, T's word and its switch
+abbrev pub commonOf : ℕ → ℕ → Bool → Common
+commonOf shared tagged on = record { shared = shared; tagged = tagged; on = on }
 
 -- the record of the code: an answer, the head words, the switch and a worker's record
 abbrev pub turned : ℕ → ℕ → ℕ → ℕ → Bool → Worker → Turned

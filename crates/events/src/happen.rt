@@ -6,7 +6,7 @@ ghost use Rattle.operations.specs.Operations.{busyB};
 ghost use Rattle.staged.specs.Damage.{turn};
 ghost use lib.Dec.{ltb};
 ghost use Rattle.machine.specs.Parts.{askListsOf};
-ghost use Rattle.events.specs.Parts.{byWorkerB, turned, happened, quickB, happenOf};
+ghost use Rattle.events.specs.Parts.{byWorkerB, commonOf, turned, happened, quickB, happenOf};
 use crate::A_MOVE;
 use crate::A_REQUEST;
 use answers::NO_WORKER;
@@ -25,6 +25,13 @@ pub struct Event {
     pub code: u64,
     pub a: u64,
     pub b: u64,
+}
+
+// What the workers share: S, T's word and whether T is on.
+pub struct Common {
+    pub shared: u64,
+    pub tagged: u64,
+    pub on: bool,
 }
 
 // What an event gives back: its answer, the head words, the switch and the worker's record.
@@ -49,6 +56,13 @@ fn give(number: u64, value: u64, shared: u64, tagged: u64, on: bool, worker: Wor
         on,
         worker,
     }
+}
+
+// What the workers share, of these.
+pub fn in_common(shared: u64, tagged: u64, on: bool) -> Common
+    ensures { λ r. ⌜ r ≡ commonOf shared tagged on ⌝ }
+{
+    Common { shared, tagged, on }
 }
 
 // Whether a kind is a request or a move.
@@ -82,28 +96,36 @@ pub fn happen(
     any: bool,
     n: u64,
     bw: u64,
-    shared: u64,
-    tagged: u64,
-    on: bool,
+    c: Common,
     page: &mut [u64],
     bits: &mut [u64],
     e: Event,
 ) -> Turned
-    ensures { λ r. ⌜ happened n bw r (now (page .exit)) (now (bits .exit)) ≡ happenOf (ltb (e .worker) workers) any (turn k shared tagged on (lent n bw (now (page .entry)) (now (bits .entry)))) e ⌝ }
+    ensures { λ r. ⌜ happened n bw r (now (page .exit)) (now (bits .exit)) ≡ happenOf (ltb (e .worker) workers) any (turn k (c .shared) (c .tagged) (c .on) (lent n bw (now (page .entry)) (now (bits .entry)))) e ⌝ }
 {
     if !by_worker(e.kind) {
-        let r = toggle(e.kind, any, tagged, on);
-        return give(r.number, r.value, shared, r.tagged, r.on, k);
+        let r = toggle(e.kind, any, c.tagged, c.on);
+        return give(r.number, r.value, c.shared, r.tagged, r.on, k);
     }
     if workers <= e.worker {
-        return give(NO_WORKER, 0, shared, tagged, on, k);
+        return give(NO_WORKER, 0, c.shared, c.tagged, c.on, k);
     }
     if e.kind == A_MOVE {
-        let r = make(k, n, bw, shared, tagged, on, e.code != 0, page, &*bits);
+        let r = make(
+            k,
+            n,
+            bw,
+            c.shared,
+            c.tagged,
+            c.on,
+            e.code != 0,
+            page,
+            &*bits,
+        );
         let worker = r.worker;
-        return give(r.number, r.value, r.shared, r.tagged, on, worker);
+        return give(r.number, r.value, r.shared, r.tagged, c.on, worker);
     }
-    let r = start(k, n, on, bits, e.code, e.a);
+    let r = start(k, n, c.on, bits, e.code, e.a);
     let worker = r.worker;
-    give(r.number, r.value, shared, tagged, on, worker)
+    give(r.number, r.value, c.shared, c.tagged, c.on, worker)
 }

@@ -9,6 +9,7 @@ ghost use Rattle.events.specs.Parts.{eventIn, slotOf};
 use crate::happen::Event;
 use crate::happen::act;
 use crate::happen::happen;
+use crate::happen::in_common;
 use crate::happen::is_quick;
 use answers::BAD_PAGE;
 use answers::DONE;
@@ -97,19 +98,8 @@ fn run(
             continue;
         }
         let any = e.kind == TURNS_OFF && any_busy(s);
-        let r = happen(
-            q,
-            s.w,
-            any,
-            s.n,
-            s.bw,
-            s.shared,
-            s.tagged,
-            s.on,
-            &mut *page,
-            &mut *bits,
-            e,
-        );
+        let c = in_common(s.shared, s.tagged, s.on);
+        let r = happen(q, s.w, any, s.n, s.bw, c, &mut *page, &mut *bits, e);
         let after = r.worker;
         s.workers[w] = after;
         s.shared = r.shared;

@@ -6,12 +6,15 @@ use mathlib.Core.Logic.{⊎-elim}
 use native.Mathlib.Omega.{arith}
 use borrow.Author.Needs.{needs}
 use borrow.Author.Tests.{eqb-true}
-use lib.Dec.{eqb}
+use lib.Dec.{eqb, ltb}
 use lib.ListN.{length}
 use Rattle.answers.proofs.Rows.{by}
 use Rattle.page.specs.Limits.{maxWorkers}
+use Rattle.staged.specs.Damage.{turn}
+use Rattle.events.specs.declared.happen.Common.{Common}
 use Rattle.events.specs.declared.happen.Event.{Event}
-use Rattle.machine.specs.Config.{config}
+use Rattle.events.specs.Parts.{happenOf}
+use Rattle.machine.specs.Config.{config, workerOf, lentOf}
 use Rattle.machine.specs.Table.{anyBusy}
 use Rattle.machine.specs.Events.{eventWords, answerWords, turnsOff, eventOf, ran, runOf}
 use Rattle.events.proofs.EventArms.{slot-inside, act-is, event-is, still-kept, Going, put-by, run-more}
@@ -106,31 +109,34 @@ loop-again c =
 any-busy-requires : tie.Need-any-busy-requires Inv-loop μ-loop
 any-busy-requires c κs = search needs
 
+in-common-requires : tie.Need-in-common-requires Inv-loop μ-loop
+in-common-requires c κs = search needs
+
 happen-requires : tie.Need-happen-requires Inv-loop μ-loop
 happen-requires c κs = search needs
 
 mul-after-2 : tie.Need-mul-after-2 Inv-loop μ-loop
 mul-after-2 c =
-    let h = inside (c .before .before .before .before .before .before .before .before .before .before .before .before .before) in
+    let h = inside (c .before .before .before .before .before .before .before .before .before .before .before .before .before .before) in
     omega arith
 
 element-set-from-after-2 : tie.Need-element-set-from-after-2 Inv-loop μ-loop
-element-set-from-after-2 c = inside (c .before .before .before .before .before .before .before .before .before .before .before .before .before)
+element-set-from-after-2 c = inside (c .before .before .before .before .before .before .before .before .before .before .before .before .before .before)
 
 put-requires-2 : tie.Need-put-requires-2 Inv-loop μ-loop
-put-requires-2 c κs = room (c .before .before .before .before .before .before .before .before .before .before .before .before .before .before)
+put-requires-2 c κs = room (c .before .before .before .before .before .before .before .before .before .before .before .before .before .before .before)
 
 loop-less-2 : tie.Need-loop-less-2 Inv-loop μ-loop
 loop-less-2 c = search needs
 
 loop-again-2 : tie.Need-loop-again-2 Inv-loop μ-loop
 loop-again-2 c =
-    let q = c .before .before .before .before .before .before .before .before .before .before .before .before .before .before .before .before in
+    let q = c .before .before .before .before .before .before .before .before .before .before .before .before .before .before .before .before .before in
     let l = q .before .before .before .before .loop in
     let x = q .before .before .before .before .before .before .before .before .before .args in
     let e = q .before .before .read in
     let here = config (l .s) (l .page) (l .bits) in
-    let i = c .before .before .before .before .before .before .before .before .before .before .before .before .if2 in
+    let i = c .before .before .before .before .before .before .before .before .before .before .before .before .before .if2 in
     let any : eqb (e .result .kind) turnsOff ≡ true → i .any ≡ anyBusy (l .s .workers) (l .s .w) = λ t. ⊎-elim {C = i .any ≡ anyBusy (l .s .workers) (l .s .w)} (λ w. w .2 ∙ w .1 .ensures) (λ w. absurd (w .0 .left (eqb-true _ _ t))) (i .came) in
     record {
       rules = still-kept (l .s) _ (l .page) (l .bits) _ _ (l .inv .rules) refl refl refl (search needs) (search needs);
@@ -140,7 +146,7 @@ loop-again-2 c =
       places = search needs;
       same =
           run-more (x .events .now) (l .k) here (l .answers) (ran (config (x .state) (x .page .now) (x .bits .now)) (x .answers .now))
-          (event-is here (e .result) (l .inv .rules) any (q .before .slot .ensures) (by (c .before .before .before .before .before .before .before .before .before .before .before .before .before .before .before .is-quick .ensures) (c .before .before .before .before .before .before .before .before .before .before .before .before .before .before .if1 .left)) (c .before .before .before .before .before .before .before .before .before .happen .ensures)
+          (event-is here (e .result) (l .inv .rules) any (q .before .slot .ensures) (by (c .before .before .before .before .before .before .before .before .before .before .before .before .before .before .before .before .is-quick .ensures) (c .before .before .before .before .before .before .before .before .before .before .before .before .before .before .before .if1 .left)) (c .before .before .before .before .before .before .before .before .before .happen .ensures ∙ ap (λ (m : Common). happenOf (ltb (e .result .worker) (l .s .w)) (i .any) (turn (workerOf here (q .before .slot .result)) (m .shared) (m .tagged) (m .on) (lentOf here)) (e .result)) (c .before .before .before .before .before .before .before .before .before .before .before .before .in-common .ensures))
           ∙ ap (λ (e : Event). eventOf here (e .kind) (e .worker) (e .code) (e .a) (e .b)) (e .ensures))
           refl (c .before .before .put2 .ensures) (l .inv .same);
     }
@@ -181,6 +187,7 @@ run-spec =
     loop-less
     loop-again
     any-busy-requires
+    in-common-requires
     happen-requires
     mul-after-2
     element-set-from-after-2

@@ -23,7 +23,7 @@ returns : tie.Need-returns
 returns c =
     let x = c .before .before .before .before .before .before .args in
     happened-by (c .give .ensures)
-    ∙ happen-is (ltb (x .e .worker) (x .workers)) (x .any) (turn (x .k) (x .shared) (x .tagged) (x .on) (lent (x .n) (x .bw) (x .page .now) (x .bits .now))) (x .e)
+    ∙ happen-is (ltb (x .e .worker) (x .workers)) (x .any) (turn (x .k) (x .c .shared) (x .c .tagged) (x .c .on) (lent (x .n) (x .bw) (x .page .now) (x .bits .now))) (x .e)
     (by-not (c .before .before .before .by-worker .ensures) (c .before .before .if1 .taken)) refl refl (c .before .toggle .ensures) refl refl
 
 give-requires-2 : tie.Need-give-requires-2
@@ -34,7 +34,7 @@ returns-2 c =
     let e = c .before .before .before in
     let x = e .before .before .before .before .args in
     happened-by (c .give2 .ensures)
-    ∙ happen-is (ltb (x .e .worker) (x .workers)) (x .any) (turn (x .k) (x .shared) (x .tagged) (x .on) (lent (x .n) (x .bw) (x .page .now) (x .bits .now))) (x .e)
+    ∙ happen-is (ltb (x .e .worker) (x .workers)) (x .any) (turn (x .k) (x .c .shared) (x .c .tagged) (x .c .on) (lent (x .n) (x .bw) (x .page .now) (x .bits .now))) (x .e)
     (by-not (e .before .by-worker .ensures) (e .if1 .left)) (le-ltb _ _ (c .before .if2 .taken)) refl refl refl refl
 
 make-requires : tie.Need-make-requires
@@ -56,7 +56,7 @@ returns-3 c =
     let e = d .before .before in
     let x = e .before .before .before .before .args in
     happened-by (c .give3 .ensures)
-    ∙ happen-is (ltb (x .e .worker) (x .workers)) (x .any) (turn (x .k) (x .shared) (x .tagged) (x .on) (lent (x .n) (x .bw) (x .page .now) (x .bits .now))) (x .e)
+    ∙ happen-is (ltb (x .e .worker) (x .workers)) (x .any) (turn (x .k) (x .c .shared) (x .c .tagged) (x .c .on) (lent (x .n) (x .bw) (x .page .now) (x .bits .now))) (x .e)
     (by-not (e .before .by-worker .ensures) (e .if1 .left)) (lt-ltb _ _ (d .if2 .left)) (eq-eqb _ _ (t .if3 .taken)) refl (c .before .before .before .before .make .ensures) refl
 
 start-requires : tie.Need-start-requires
@@ -75,7 +75,7 @@ returns-4 c =
     let e = d .before .before in
     let x = e .before .before .before .before .args in
     happened-by (c .give4 .ensures)
-    ∙ happen-is (ltb (x .e .worker) (x .workers)) (x .any) (turn (x .k) (x .shared) (x .tagged) (x .on) (lent (x .n) (x .bw) (x .page .now) (x .bits .now))) (x .e)
+    ∙ happen-is (ltb (x .e .worker) (x .workers)) (x .any) (turn (x .k) (x .c .shared) (x .c .tagged) (x .c .on) (lent (x .n) (x .bw) (x .page .now) (x .bits .now))) (x .e)
     (by-not (e .before .by-worker .ensures) (e .if1 .left)) (lt-ltb _ _ (d .if2 .left)) (ne-eqb _ _ (t .if3 .left)) refl refl (c .before .before .before .before .start .ensures)
 
 pub happen-spec : {M : Type 1} → statement M
