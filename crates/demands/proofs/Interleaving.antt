@@ -5,7 +5,7 @@ use mathlib.Core.Bool.{Bool, true, false}
 use mathlib.Core.List.{[], _∷_}
 use native.Mathlib.Omega.{arith}
 use native.Mathlib.Nat.{zero-div}
-use lib.ListN.{length, getD, replicate, length-replicate}
+use lib.ListN.{length, replicate, length-replicate}
 use Rattle.answers.specs.Numbers.{done}
 use Rattle.words.specs.Digits.{digit}
 use Rattle.bitmap.specs.Bitmap.{bitAt}
@@ -14,6 +14,7 @@ use Rattle.page.specs.Page.{lent, Rules, keepsRulesB, workersB}
 use Rattle.page.proofs.Rules.{rules-facts, workers-facts}
 use Rattle.page.proofs.Running.{run-none}
 use Rattle.machine.specs.Config.{config, blank, rulesB, freshState, zeroed, freshOf}
+use Rattle.machine.proofs.FreshStart.{repeated}
 use Rattle.demands.specs.Simple.{still, start, heldBy, sumOver}
 use Rattle.demands.specs.Moments.{step, isMoment, moment, follow}
 use Rattle.demands.specs.Relation.{resting, Sim}
@@ -34,12 +35,6 @@ every-interleaving c s m (e ∷ es) ok =
     }
 
 -- ---- a fresh page
-
--- every place of a list of equal elements, and past it
-repeated : {A : Type 0} (m k : ℕ) (x : A) → getD (replicate m x) k x ≡ x
-repeated zero k x = refl
-repeated (suc m) zero x = refl
-repeated (suc m) (suc k) x = repeated m k x
 
 -- no bit of a zeroed bitmap is set
 pub zeroed-clear : (m i : ℕ) → bitAt (replicate m 0) i ≡ 0

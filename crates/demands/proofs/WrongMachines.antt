@@ -30,6 +30,7 @@ use Rattle.machine.specs.Switch.{switchOnOf, switchOffOf}
 use Rattle.demands.specs.Simple.{judged, ownAct, act, start}
 use Rattle.demands.specs.Simple as simple
 use Rattle.demands.specs.Moments.{Event, request, move, on, off, store, step, simpleStep, endsAtLoad, actOf, moment}
+use Rattle.demands.specs.ByHand.{pushes, takes, sets}
 use Rattle.demands.specs.Compare.{Machine, keepsUp}
 
 -- ---- a small page: seven blocks of two words, three workers
@@ -68,15 +69,6 @@ abbrev atStageBy : ℕ → (Turn → Bool → Outcome Turn) → Turn → Bool �
 atStageBy stage f t flag = cond (eqb (t .worker .stage) stage) (f t flag) (moveAct t flag)
 
 -- ---- runs
-
-abbrev pushes : ℕ → ℕ → List Event
-pushes w a = request w 6 a 0 ∷ move w false ∷ move w false ∷ move w false ∷ []
-
-abbrev takes : ℕ → List Event
-takes w = request w 7 0 0 ∷ move w false ∷ move w false ∷ []
-
-abbrev sets : ℕ → ℕ → List Event
-sets w tag = request w 10 tag 0 ∷ move w false ∷ move w false ∷ []
 
 abbrev pops : ℕ → List Event
 pops w = request w 2 0 0 ∷ request w 2 0 0 ∷ request w 2 0 0 ∷ []

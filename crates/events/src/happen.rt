@@ -58,7 +58,7 @@ fn give(number: u64, value: u64, shared: u64, tagged: u64, on: bool, worker: Wor
     }
 }
 
-// What the workers share, of these.
+// S, T's word and its switch as one.
 pub fn in_common(shared: u64, tagged: u64, on: bool) -> Common
     ensures { λ r. ⌜ r ≡ commonOf shared tagged on ⌝ }
 {

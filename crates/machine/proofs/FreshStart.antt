@@ -93,7 +93,7 @@ zero-answers-two page bits = broken-answers-two _ (zero-breaks page bits)
 -- ---- the fresh start
 
 -- every element of a list that repeats one is that one
-repeated : {A : Type 0} (m i : ℕ) (x : A) → getD (replicate m x) i x ≡ x
+pub repeated : {A : Type 0} (m i : ℕ) (x : A) → getD (replicate m x) i x ≡ x
 repeated zero i x = refl
 repeated (suc m) zero x = refl
 repeated (suc m) (suc i) x = repeated m i x

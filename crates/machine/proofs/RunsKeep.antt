@@ -1,7 +1,6 @@
 -- Demand 1, proved for runs of events: what no call changes, no run of them does. Assumes nothing.
 use Prim.Native.Nat.{ℕ, zero, suc, _+_, _*_, _/_}
 use mathlib.Core.Path.{_∙_, ap}
-use mathlib.Core.Bool.{Bool, true, false, cond}
 use mathlib.Core.List.{List}
 use native.Mathlib.Omega.{arith}
 use lib.Dec.{eqb}
@@ -14,7 +13,7 @@ use Rattle.page.specs.Keeps.{Keeps}
 use Rattle.machine.specs.Config.{Config}
 use Rattle.machine.specs.Events.{eventWords, aRequest, aMove, turnsOn, turnsOff, flagOf, eventOf, Run, runOf, eventsRefusal, eventsOf}
 use Rattle.machine.specs.Total.{NeverChanges, RunsKept}
-use Rattle.machine.proofs.Unchanged.{kept-refl, all-kept}
+use Rattle.machine.proofs.Unchanged.{kept-refl, pick, all-kept}
 
 -- ---- one after the other
 
@@ -35,17 +34,15 @@ kept-then p q =
 
 -- ---- an event, and a run of them
 
--- whichever a test picks
-pick : (P : Config → Type 0) (b : Bool) (x y : Outcome Config) → P (x .after) → P (y .after) → P (cond b x y .after)
-pick P true x y p q = p
-pick P false x y p q = q
-
 event-kept : (c : Config) (kind w code a b : ℕ) → NeverChanges c (eventOf c kind w code a b .after)
 unfolding eventOf
 event-kept c kind w code a b =
-    pick (NeverChanges c) (eqb kind aRequest) _ _ (all-kept .0 c w code a b)
-    (pick (NeverChanges c) (eqb kind aMove) _ _ (all-kept .1 c w (flagOf code))
-    (pick (NeverChanges c) (eqb kind turnsOn) _ _ (all-kept .2 c) (pick (NeverChanges c) (eqb kind turnsOff) _ _ (all-kept .3 c) (kept-refl c))))
+    pick P (eqb kind aRequest) _ _ (all-kept .0 c w code a b)
+    (pick P (eqb kind aMove) _ _ (all-kept .1 c w (flagOf code))
+    (pick P (eqb kind turnsOn) _ _ (all-kept .2 c) (pick P (eqb kind turnsOff) _ _ (all-kept .3 c) (kept-refl c))))
+  where
+    P : Outcome Config → Type 0
+    P o = NeverChanges c (o .after)
 
 run-kept : (events : List ℕ) (m : ℕ) (r : Run) → NeverChanges (r .config) (runOf events m r .config)
 unfolding runOf

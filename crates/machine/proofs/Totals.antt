@@ -23,6 +23,7 @@ use Rattle.machine.specs.Requests.{atOnceAct, requestAct, requestOf}
 use Rattle.machine.specs.Moves.{moveOf}
 use Rattle.machine.specs.Switch.{withSwitch, switchOnOf, switchOffOf}
 use Rattle.machine.specs.Total.{OneAnswer, Answered, AllAnswered, MoveNumbers, FirstAt, requestRows, moveRows, onRows, offRows, ExactlyByRows}
+use Rattle.machine.proofs.Unchanged.{pick}
 
 -- ---- rows
 
@@ -98,8 +99,7 @@ request-act-small c w code a b = go (stagedB code) refl
 
 -- either of two, whichever a test picks
 pick-small : {C : Type 0} (b : Bool) (x y : Outcome C) → x .number ≤ underWay → y .number ≤ underWay → cond b x y .number ≤ underWay
-pick-small true x y p q = p
-pick-small false x y p q = q
+pick-small {C} = pick (λ (o : Outcome C). o .number ≤ underWay)
 
 move-act-small : (t : Turn) (flag : Bool) → moveAct t flag .number ≤ underWay
 unfolding moveAct loadAct loadAsk loadAwait writeAct exchangeAct swapAct maskAct

@@ -3,17 +3,17 @@ use Prim.Native.Nat.{ℕ, _+_, _≤_, _<_}
 use mathlib.Core.Path.{_≡_, refl, sym, _∙_, subst}
 use mathlib.Core.Logic.{_≢_}
 use mathlib.Core.Bool.{Bool, true, false, not, _&&_, _||_, cond, true≢false}
-use mathlib.Core.List.{List, [], _∷_}
+use mathlib.Core.List.{List}
 use native.Mathlib.Omega.{arith}
 use lib.Dec.{eqb, leb}
 use lib.ListN.{getD, set, length-set}
 use lib.Seq.{getD-set-other}
 use borrow.Author.Tests.{eqb-true, eqb-false, ne-eqb, not-false, ltb-true}
 use Rattle.answers.specs.Rows.{Outcome, outcome}
-use Rattle.answers.proofs.Rows.{and-left, first-none, unless-either}
+use Rattle.answers.proofs.Rows.{first-none, unless-either}
 use Rattle.bitmap.specs.Bitmap.{bitPut}
 use Rattle.bitmap.proofs.Bits.{at-put-other, put-length}
-use Rattle.page.specs.Page.{Lent, lent, blockB, listedB, place, blockOf, soundIn}
+use Rattle.page.specs.Page.{Lent, lent, place, blockOf, soundIn}
 use Rattle.page.specs.Walk.{walkOf}
 use Rattle.page.specs.Keeps.{Keeps}
 use Rattle.page.specs.Sequences.{Listed, Runs}
@@ -23,11 +23,13 @@ use Rattle.page.proofs.Keeping.{keeps-refl, keeps-lent}
 use Rattle.lists.specs.Own.{emptyAct}
 use Rattle.lists.proofs.Kept.{inserted-keeps, popped-keeps, appended-keeps, extended-keeps, released-keeps}
 use Rattle.operations.specs.declared.Worker.{Worker}
-use Rattle.operations.specs.Operations.{pushShared, pushTagged, takeShared, takeTagged, setTag, askTag, awaitTag, loading, writing, exchanging, swapping, stagedB, pushesB, stagesOf, oneOf}
+use Rattle.operations.specs.Operations.{pushShared, pushTagged, takeShared, setTag, askTag, loading, writing, exchanging, swapping, stagedB, pushesB, pairedB}
+use Rattle.operations.proofs.PairArms.{writing-pushes}
 use Rattle.staged.specs.Workers.{maxSightings}
 use Rattle.staged.specs.Start.{startFitsB, startAct}
-use Rattle.staged.specs.Damage.{Turn, headWord, handBad, any, damagedB}
+use Rattle.staged.specs.Damage.{Turn, headWord, damagedB}
 use Rattle.staged.specs.Moves.{failsB, loadAsk, loadAwait, loadAct, writeAct, exchangeAct, swapAct, maskAct, moveAct}
+use Rattle.staged.proofs.DamageArms.{or-right, is-paired, hand-listed}
 use Rattle.words.specs.Tagged.{tagOf, addressOf}
 use Rattle.machine.specs.Config.{Config, lentOf, workerOf, listsOf, starterOf, turnOf, putTurn, over, blank}
 use Rattle.machine.specs.Table.{insert, pop, append, extend, release, argumentsFitB, ownUnsound, linkUnsound, walkBroken, testsOf, requestRefusal, moveRefusal, onRefusal, offRefusal}
@@ -40,10 +42,6 @@ use Rattle.machine.proofs.Passing.{Passed, passed}
 or-left : (x y : Bool) → (x || y) ≡ false → x ≡ false
 or-left true y q = q
 or-left false y q = refl
-
-or-right : (x y : Bool) → (x || y) ≡ false → y ≡ false
-or-right true y q = absurd (true≢false q)
-or-right false y q = q
 
 -- the same configuration
 pub kept-refl : (c : Config) → NeverChanges c c
@@ -155,7 +153,7 @@ module _ (c : Config) (w code a b : ℕ) (p : Passed code (testsOf c w code a b)
 -- ---- moves
 
 -- whichever a test picks
-pub pick : (P : Outcome Turn → Type 0) (b : Bool) (x y : Outcome Turn) → P x → P y → P (cond b x y)
+pub pick : {C : Type 0} (P : Outcome C → Type 0) (b : Bool) (x y : Outcome C) → P x → P y → P (cond b x y)
 pick P true x y p q = p
 pick P false x y p q = q
 
@@ -192,36 +190,12 @@ move-act-keeps t flag hand = by (eqb (t .worker .stage) writing) refl
     by true e = pick P (eqb (t .worker .stage) loading) _ _ load (pick P (eqb (t .worker .stage) writing) _ _ (write true e refl) rest)
     by false e = pick P (eqb (t .worker .stage) loading) _ _ load (rw e rest)
 
--- only a push writes
-writes-push : (op : ℕ) → oneOf writing (stagesOf op) ≡ true → pushesB op ≡ true
-unfolding stagesOf oneOf
-writes-push op e = go (pushesB op) refl (eqb op takeShared) refl (eqb op takeTagged) refl (eqb op setTag || (eqb op askTag || false)) refl (eqb op awaitTag) refl e
-  where
-    go : (b1 : Bool) → pushesB op ≡ b1 → (b2 : Bool) → eqb op takeShared ≡ b2 → (b3 : Bool) → eqb op takeTagged ≡ b3 → (b4 : Bool) → (eqb op setTag || (eqb op askTag || false)) ≡ b4
-        → (b5 : Bool) → eqb op awaitTag ≡ b5
-        → oneOf writing (cond b1 (1 ∷ 2 ∷ 3 ∷ []) (cond b2 (1 ∷ 4 ∷ []) (cond b3 (5 ∷ []) (cond b4 (1 ∷ 3 ∷ []) (cond b5 (1 ∷ []) []))))) ≡ true → pushesB op ≡ true
-    go true e1 b2 e2 b3 e3 b4 e4 b5 e5 f = e1
-    go false e1 true e2 b3 e3 b4 e4 b5 e5 f = absurd (true≢false (sym f))
-    go false e1 false e2 true e3 b4 e4 b5 e5 f = absurd (true≢false (sym f))
-    go false e1 false e2 false e3 true e4 b5 e5 f = absurd (true≢false (sym f))
-    go false e1 false e2 false e3 false e4 true e5 f = absurd (true≢false (sym f))
-    go false e1 false e2 false e3 false e4 false e5 f = absurd (true≢false (sym f))
-
--- no test of a list holds
-any-none : (b : Bool) (l : List Bool) → any (b ∷ l) ≡ false → (b ≡ false) × (any l ≡ false)
-unfolding any
-any-none b l e = (or-left b (any l) e, or-right b (any l) e)
-
 -- at a write that is not damaged the block in hand is 1 to n
 hand-fits : (t : Turn) → damagedB t ≡ false → t .worker .stage ≡ writing → (1 ≤ t .worker .hand) × (t .worker .hand ≤ t .lent .n)
-unfolding damagedB handBad
 hand-fits t d e =
-    let t1 = any-none _ _ d in
-    let t2 = any-none _ _ (t1 .1) in
-    let pushing : pushesB (t .worker .operation) ≡ true = writes-push (t .worker .operation) (subst (λ (k : ℕ). oneOf k (stagesOf (t .worker .operation)) ≡ true) e (not-false _ (t1 .0))) in
-    let fine : (pushesB (t .worker .operation) && not (blockB (t .lent .n) (t .worker .hand) && listedB (t .lent .bits) (t .worker .hand))) ≡ false = t2 .0 in
-    let held : (blockB (t .lent .n) (t .worker .hand) && listedB (t .lent .bits) (t .worker .hand)) ≡ true = not-false _ (rw pushing at fine) in
-    block-facts (t .lent .n) (t .worker .hand) (and-left (blockB (t .lent .n) (t .worker .hand)) (listedB (t .lent .bits) (t .worker .hand)) held)
+    let pushing = writing-pushes (t .worker .operation) (subst (λ (k : ℕ). pairedB (t .worker .operation) k ≡ true) e (is-paired t d)) in
+    let l = hand-listed t d pushing in
+    (l .low, l .high)
 
 moved : (c : Config) (w : ℕ) (flag : Bool) → moveRefusal c w ≡ 0 → NeverChanges c (over (putTurn c w) (moveAct (turnOf c w) flag) .after)
 unfolding moveRefusal
