@@ -1,4 +1,5 @@
 // What every function answers: document 01's number, and the value that goes with it.
+#![tactic(auto)]
 
 #[derive(Drop)]
 pub struct Answer {

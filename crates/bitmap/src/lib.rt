@@ -1,5 +1,7 @@
 // A bitmap in lent words: block i is bit i mod 64 of word i / 64. No public function has a requires: a bit past the
 // slice's end is not set, and putting one changes nothing.
+#![tactic(auto)]
+
 ghost use Rattle.std.specs.Prelude.{◌≡◌, eqb, get_or};
 ghost use Rattle.bitmap.specs.Bitmap.{bit_at, bit_put};
 

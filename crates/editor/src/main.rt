@@ -1,5 +1,7 @@
 // The program of document 01: records of 8 bytes from standard input, a line for each to standard output, `bad` at an
 // unknown mark or a cut record. It reads and writes here; decoding, the machine and the text are calls.
+#![tactic(auto)]
+
 ghost use Rattle.std.specs.Prelude.{◌≡◌, ◌&&◌, ◌*◌, ◌≤◌, eqb, length};
 ghost use Rattle.machine.specs.Config.{config};
 ghost use Rattle.editor.specs.Chunk.{Room, performed, perform_of};

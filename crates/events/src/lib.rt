@@ -1,4 +1,6 @@
 // A run of events in a lent slice, with the state in a local that is changed in place. No public function has a requires.
+#![tactic(auto)]
+
 ghost use Rattle.std.specs.Prelude.{true, ◌≡◌, ◌+◌, ◌*◌, ◌/◌, ◌<◌, ◌≤◌, length, set};
 ghost use Rattle.machine.specs.Config.{config, rules_b};
 ghost use Rattle.machine.specs.Events.{event_words, answer_words, ran, came_run, run_of, events_of};

@@ -1,4 +1,6 @@
 // Worked examples of words and bits, run and proved: document 01's P2 and P3, refusals, and the edges of a bitmap.
+#![tactic(auto)]
+
 use bitmap::count::listed_count;
 use bitmap::first::first_unlisted;
 use bitmap::runs::{any_set, set_run};

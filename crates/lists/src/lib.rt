@@ -1,6 +1,8 @@
 // Upstream's LL over heads and the two lent slices. Each function takes own's and got's heads, the page's numbers and the
 // slices, and gives back the answer and the heads. No public function has a requires: each refuses by document 01's
 // numbers, the smallest first, and a refusal changes nothing.
+#![tactic(auto)]
+
 ghost use Rattle.std.specs.Prelude.{◌≡◌};
 ghost use Rattle.lists.specs.Lists.{lists, came, heads};
 ghost use Rattle.lists.specs.Own.{insert_of, pop_of, append_of, extend_of, release_of, empty_of};

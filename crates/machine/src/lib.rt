@@ -1,5 +1,7 @@
 // The whole machine over a State, the page and the bitmap. No public function has a requires: each refuses by document
 // 01's numbers, the smallest first, and a refusal changes nothing.
+#![tactic(auto)]
+
 use operations::Worker;
 
 pub mod ask;

@@ -1,5 +1,7 @@
 // The operations by the numbers of their requests, the stages of a move, what is asked of them at a start and at a move, and
 // a worker's record. No public function has a requires.
+#![tactic(auto)]
+
 ghost use Rattle.std.specs.Prelude.{◌≡◌};
 ghost use Rattle.operations.specs.Operations.{staged_b, pushes_b, takes_b, on_shared_b, on_tagged_b, word_of, off_b, full_b, first_stage, paired_b, busy_b};
 

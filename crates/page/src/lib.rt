@@ -1,5 +1,7 @@
 // The page: its rules, its addresses, and lists linked inside it. No public function has a requires: whatever numbers
 // and slices come, the answer is the definition's.
+#![tactic(auto)]
+
 ghost use Rattle.std.specs.Prelude.{◌≡◌, cond, ◌&&◌, ◌/◌, leb, set};
 ghost use Rattle.page.specs.Limits.{max_blocks, max_width};
 ghost use Rattle.page.specs.Page.{lent, fits_b, workers_b, block_b, run_b, address_of, block_of, link_at, good_b, sound_b};

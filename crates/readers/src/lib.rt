@@ -1,4 +1,6 @@
 // The five readers, over the page's numbers and the two slices. None changes anything, and none has a requires.
+#![tactic(auto)]
+
 ghost use Rattle.std.specs.Prelude.{◌≡◌};
 ghost use Rattle.answers.specs.Rows.{answer};
 ghost use Rattle.page.specs.Page.{lent};

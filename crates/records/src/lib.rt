@@ -1,5 +1,7 @@
 // Records of 8 bytes to events: a two-byte mark, worker, code, then a and b as two bytes each, low first. No public
 // function has a requires: any bytes, at any place, and any room for the events.
+#![tactic(auto)]
+
 ghost use Rattle.std.specs.Prelude.{◌≡◌, ◌+◌, ◌*◌, ◌≤◌, length};
 ghost use Rattle.records.specs.Records.{is_mark, kind_of, two_bytes, event_at, decode_at};
 ghost use Rattle.records.specs.Fill.{going, put_event, turned, filling, next, came, fill_of};

@@ -1,5 +1,7 @@
 // Tagged words: an address, a multiple of 4, and a tag of 0 to 3 in the two low bits. The six helpers keep upstream's
 // names. No public function has a requires: a tag above 3 or an address that is no multiple of 4 is refused.
+#![tactic(auto)]
+
 ghost use Rattle.std.specs.Prelude.{◌≡◌, ◌+◌, eqb};
 ghost use Rattle.words.specs.Tagged.{address_of, tag_of, use_delayed_free, freeing, set_ptr_of, set_delay_of};
 

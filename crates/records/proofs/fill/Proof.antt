@@ -11,61 +11,60 @@ use Rattle.records.proofs.Filling.{Holds, holds_at}
 use Rattle.records.proofs.fill.Statement.{statement}
 use Rattle.records.proofs.fill.Tie as tie
 
-abbrev invariant-loop : tie.invariant-loop
+abbrev invariant-loop : tie.invariant-loop-records
 invariant-loop bytes events₀ records₀ events records = fill_in bytes records events₀ ≡ filling records going events
 
-abbrev decreases-loop : tie.decreases-loop
+abbrev decreases-loop : tie.decreases-loop-records
 decreases-loop bytes events₀ records₀ events records = length bytes - 8 * records
 
-loop-holds : tie.Need-loop-init invariant-loop decreases-loop
+loop-holds : tie.Need-loop-records-init invariant-loop decreases-loop
 unfolding fill_in
 loop-holds c = refl
 
 -- the two slices as they came, and what holds of the turns so far
-abbrev came-bytes : tie.At-loop invariant-loop decreases-loop → List ℕ
-came-bytes l = l.before.before.before.args.bytes.now
+abbrev came-bytes : tie.At-loop-records invariant-loop decreases-loop → List ℕ
+came-bytes l = l.args.bytes.now
 
-abbrev came-events : tie.At-loop invariant-loop decreases-loop → List ℕ
-came-events l = l.before.before.before.args.events.now
+abbrev came-events : tie.At-loop-records invariant-loop decreases-loop → List ℕ
+came-events l = l.args.events.now
 
-held : (l : tie.At-loop invariant-loop decreases-loop) → Holds (came-bytes l) (came-events l) (filling l.loop.records going l.loop.events)
-held l = holds_at (came-bytes l) (came-events l) l.loop.records l.loop.invariant
+held : (l : tie.At-loop-records invariant-loop decreases-loop) → Holds (came-bytes l) (came-events l) (filling l.loop-records.records going l.loop-records.events)
+held l = holds_at (came-bytes l) (came-events l) l.loop-records.records l.loop-records.invariant
 
-fill-one-requires : tie.Need-fill-one-requires invariant-loop decreases-loop
+fill-one-requires : tie.Need-fill_one-stop-requires invariant-loop decreases-loop
 fill-one-requires c κs = omega (arith, (held c.before).used, (held c.before).room, (held c.before).size)
 
-same_length : tie.Need-same-length invariant-loop decreases-loop
+same_length : tie.Need-shape_of-events-then-stop-ne-GOING invariant-loop decreases-loop
 same_length c =
     let p = c.before.before.before in
-    p.fill_one.auto.1.0 ∙ (held p.before.before).size
+    p.fill_one-stop.auto.events ∙ (held p.before.before).size
 
-returns : tie.Need-returns invariant-loop decreases-loop
+returns : tie.Need-returns-then-stop-ne-GOING invariant-loop decreases-loop
 returns c =
     let p = c.before.before.before in
     let l = p.before.before in
-    turn-out (came-bytes l) (came-events l) l.loop.records l.loop.events l.loop.invariant p.fill_one.result _ p.fill_one.ensures
-    c.if1.true (held l).used
+    turn-out (came-bytes l) (came-events l) l.loop-records.records l.loop-records.events l.loop-records.invariant p.fill_one-stop.result _ p.fill_one-stop.ensures
+    c.if-stop-ne-GOING.true (held l).used
 
-loop-again : tie.Need-loop-preserved invariant-loop decreases-loop
+loop-again : tie.Need-loop-records-preserved invariant-loop decreases-loop
 loop-again c =
     let p = c.before.before.before in
     let l = p.before.before in
-    turn_on (came-bytes l) (came-events l) l.loop.records l.loop.events l.loop.invariant p.fill_one.result _ p.fill_one.ensures
-    c.if1.false
+    turn_on (came-bytes l) (came-events l) l.loop-records.records l.loop-records.events l.loop-records.invariant p.fill_one-stop.result _ p.fill_one-stop.ensures
+    c.if-stop-ne-GOING.false
 
-add-records : tie.Need-overflow-add-records invariant-loop decreases-loop
+add-records : tie.Need-overflow_add-records invariant-loop decreases-loop
 add-records c =
     let l = c.before.before.before.before.before in
-    omega (arith, (holds_at (came-bytes l) (came-events l) (l.loop.records + 1) (loop-again c)).used)
+    omega (arith, (holds_at (came-bytes l) (came-events l) (l.loop-records.records + 1) (loop-again c)).used)
 
-loop-less : tie.Need-loop-smaller invariant-loop decreases-loop
+loop-less : tie.Need-loop-records-smaller invariant-loop decreases-loop
 loop-less c =
     let l = c.before.before.before.before.before in
-    omega (arith, (holds_at (came-bytes l) (came-events l) (l.loop.records + 1) (loop-again c)).used)
+    omega (arith, (holds_at (came-bytes l) (came-events l) (l.loop-records.records + 1) (loop-again c)).used)
 
 pub fill_spec : {M : Type 1} → statement M
-fill_spec =
-    tie.close
+fill_spec = tie.close
     (tie.spec
     invariant-loop
     decreases-loop

@@ -8,69 +8,64 @@ use borrow.Author.Rules.{rules}
 use Rattle.records.proofs.fill_one.Statement.{statement}
 use Rattle.records.proofs.fill_one.Tie as tie
 
-mul_at : tie.Need-overflow-mul-at
+mul_at : tie.Need-overflow_mul-at
 mul_at c = search rules
 
-mul-to : tie.Need-overflow-mul-to
+mul-to : tie.Need-overflow_mul-to
 mul-to c = search rules
 
 decode-requires : tie.Need-decode-requires
 decode-requires c κs = search rules
 
-enum_told : tie.Need-enum-told
+enum_told : tie.Need-enum_told-1
 enum_told c = search rules
 
-enum-told-2 : tie.Need-enum-told-2
+enum-told-2 : tie.Need-enum_told-in-Cut
 enum-told-2 c = search rules
 
-enum-told-3 : tie.Need-enum-told-3
+enum-told-3 : tie.Need-enum_told-in-Unknown
 enum-told-3 c = search rules
 
-enum-known-event : tie.Need-enum-known-event
+enum-known-event : tie.Need-enum_known-event
 enum-known-event c = search rules
 
-sub-if1 : tie.Need-overflow-sub-if1
+sub-if1 : tie.Need-overflow_sub-events
 sub-if1 c = search rules
 
-returns : tie.Need-returns
+returns : tie.Need-returns-then-events-to-lt5
 returns c =
-    let p = c.before.before.before.before in
-    let x = p.before.before.before.args in
-    event-is x.bytes.now x.k x.events.now (sym c.before.before.event.given.1 ∙ p.decode.ensures) (lt-ltb _ _ c.if1.true)
+    let x = c.args in
+    event-is x.bytes.now x.k x.events.now (sym c.in-Event.is ∙ c.decode.ensures) (lt-ltb _ _ c.if-events-to-lt5.true)
 
 put-requires : tie.Need-put-requires
 put-requires c κs = search rules
 
-returns-2 : tie.Need-returns-2
+returns-2 : tie.Need-returns-in-End
 returns-2 c =
-    let x = c.before.before.before.before.before.args in
-    next-is x.bytes.now x.k x.events.now (sym c.enum_told.given.1 ∙ c.before.before.decode.ensures)
+    let x = c.args in
+    next-is x.bytes.now x.k x.events.now (sym c.in-End.is ∙ c.decode.ensures)
 
-returns-3 : tie.Need-returns-3
+returns-3 : tie.Need-returns-in-Cut
 returns-3 c =
-    let x = c.before.before.before.before.before.args in
-    next-is x.bytes.now x.k x.events.now (sym c.enum-told2.given.1 ∙ c.before.before.decode.ensures)
+    let x = c.args in
+    next-is x.bytes.now x.k x.events.now (sym c.in-Cut.is ∙ c.decode.ensures)
 
-returns-4 : tie.Need-returns-4
+returns-4 : tie.Need-returns-in-Unknown
 returns-4 c =
-    let x = c.before.before.before.before.before.args in
-    next-is x.bytes.now x.k x.events.now (sym c.enum-told3.given.1 ∙ c.before.before.decode.ensures)
+    let x = c.args in
+    next-is x.bytes.now x.k x.events.now (sym c.in-Unknown.is ∙ c.decode.ensures)
 
-same_length : tie.Need-same-length
+same_length : tie.Need-shape_of-events
 same_length c = search rules
 
-returns-5 : tie.Need-returns-5
+returns-5 : tie.Need-returns-else-events-to-lt5
 returns-5 c =
-    let q = c.before.before in
-    let p = q.before.before in
-    let o = p.before.before in
-    let x = o.before.before.before.before.before.args in
-    ap (filling (x.k + 1) going) q.put.ensures
-    ∙ event-is x.bytes.now x.k x.events.now (sym o.event.given.1 ∙ o.before.before.decode.ensures) (le-ltb _ _ p.if1.false)
+    let x = c.args in
+    ap (filling (x.k + 1) going) c.put.ensures
+    ∙ event-is x.bytes.now x.k x.events.now (sym c.in-Event.is ∙ c.decode.ensures) (le-ltb _ _ c.if-events-to-lt5.false)
 
-pub fill-one-spec : {M : Type 1} → statement M
-fill-one-spec =
-    tie.close
+pub fill_one_spec : {M : Type 1} → statement M
+fill_one_spec = tie.close
     (tie.spec
     mul_at
     mul-to

@@ -5,15 +5,15 @@ use Rattle.records.proofs.Decoding.{mark-is}
 use Rattle.records.proofs.is_mark.Statement.{statement}
 use Rattle.records.proofs.is_mark.Tie as tie
 
-returns : tie.Need-returns
+returns : tie.Need-returns-then-first-x
 returns c =
-    let x = c.before.args in
-    sym (mark-is x.x x.y x.first x.second (eq-eqb _ _ c.if1.true))
+    let x = c.args in
+    sym (mark-is x.x x.y x.first x.second (eq-eqb _ _ c.if-first-x.true))
 
-returns-2 : tie.Need-returns-2
+returns-2 : tie.Need-returns-else-first-x
 returns-2 c =
-    let x = c.before.args in
-    ne_eqb _ _ c.if1.false ∙ sym (mark-is x.x x.y x.first x.second (ne_eqb _ _ c.if1.false))
+    let x = c.args in
+    ne_eqb _ _ c.if-first-x.false ∙ sym (mark-is x.x x.y x.first x.second (ne_eqb _ _ c.if-first-x.false))
 
-pub is-mark-spec : {M : Type 1} → statement M
-is-mark-spec = tie.close (tie.spec returns returns-2)
+pub is_mark_spec : {M : Type 1} → statement M
+is_mark_spec = tie.close (tie.spec returns returns-2)

@@ -9,5 +9,5 @@ use Rattle.words.proofs.masked_ptr_delay_get_is_use_delayed.Tie as tie
 returns : tie.Need-returns
 returns c = ap (λ (t : ℕ). eqb t 0) (tag-mask c.args.v)
 
-pub masked-ptr-delay-get-is-use-delayed-spec : {M : Type 1} → statement M
-masked-ptr-delay-get-is-use-delayed-spec = tie.close (tie.spec returns)
+pub masked_ptr_delay_get_is_use_delayed_spec : {M : Type 1} → statement M
+masked_ptr_delay_get_is_use_delayed_spec = tie.close (tie.spec returns)

@@ -6,5 +6,5 @@ use Rattle.words.proofs.masked_ptr_delay_get_ptr.Tie as tie
 returns : tie.Need-returns
 returns c = address-mask c.args.v c.ranges.v.fits
 
-pub masked-ptr-delay-get-ptr-spec : {M : Type 1} → statement M
-masked-ptr-delay-get-ptr-spec = tie.close (tie.spec returns)
+pub masked_ptr_delay_get_ptr_spec : {M : Type 1} → statement M
+masked_ptr_delay_get_ptr_spec = tie.close (tie.spec returns)

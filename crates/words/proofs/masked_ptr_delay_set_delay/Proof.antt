@@ -8,11 +8,11 @@ use Rattle.words.proofs.Tagged.{set-delay, no-delay}
 use Rattle.words.proofs.masked_ptr_delay_set_delay.Statement.{statement}
 use Rattle.words.proofs.masked_ptr_delay_set_delay.Tie as tie
 
-returns : tie.Need-returns
-returns c = sym (no-delay c.before.args.v c.before.args.tag c.if1.true)
+returns : tie.Need-returns-then-tag-gt-TAG
+returns c = sym (no-delay c.before.args.v c.before.args.tag c.if-tag-gt-TAG.true)
 
-returns-2 : tie.Need-returns-2
+returns-2 : tie.Need-returns
 returns-2 c = ap (answer done) (address-or c.before.args.v c.before.args.tag c.before.ranges.v.fits (omega arith)) ∙ sym (set-delay c.before.args.v c.before.args.tag (omega arith))
 
-pub masked-ptr-delay-set-delay-spec : {M : Type 1} → statement M
-masked-ptr-delay-set-delay-spec = tie.close (tie.spec returns returns-2)
+pub masked_ptr_delay_set_delay_spec : {M : Type 1} → statement M
+masked_ptr_delay_set_delay_spec = tie.close (tie.spec returns returns-2)

@@ -11,15 +11,15 @@ use Rattle.words.proofs.Tagged.{set-ptr, no-ptr}
 use Rattle.words.proofs.masked_ptr_delay_set_ptr.Statement.{statement}
 use Rattle.words.proofs.masked_ptr_delay_set_ptr.Tie as tie
 
-returns : tie.Need-returns
-returns c = sym (no-ptr c.before.args.v c.before.args.address (λ e. c.if1.true (tag-mask c.before.args.address ∙ e)))
+returns : tie.Need-returns-then-address-ne0
+returns c = sym (no-ptr c.before.args.v c.before.args.address (λ e. c.if-address-ne0.true (tag-mask c.before.args.address ∙ e)))
 
-returns-2 : tie.Need-returns-2
+returns-2 : tie.Need-returns
 returns-2 c =
     let a = c.before.args in
-    let e : a.address % 4 ≡ 0 = sym (tag-mask a.address) ∙ c.if1.false in
+    let e : a.address % 4 ≡ 0 = sym (tag-mask a.address) ∙ c.if-address-ne0.false in
     let t : bit_and a.v 3 ≡ tag_of a.v = tag-mask a.v in
     ap (answer done) (or-low a.address 2 e (omega arith) ∙ ap (λ (x : ℕ). a.address + x) t) ∙ sym (set-ptr a.v a.address e)
 
-pub masked-ptr-delay-set-ptr-spec : {M : Type 1} → statement M
-masked-ptr-delay-set-ptr-spec = tie.close (tie.spec returns returns-2)
+pub masked_ptr_delay_set_ptr_spec : {M : Type 1} → statement M
+masked_ptr_delay_set_ptr_spec = tie.close (tie.spec returns returns-2)
