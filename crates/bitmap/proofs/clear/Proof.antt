@@ -9,30 +9,29 @@ use Rattle.bitmap.proofs.Masks.{bit-clear}
 use Rattle.bitmap.proofs.clear.Statement.{statement}
 use Rattle.bitmap.proofs.clear.Tie as tie
 
-shl-bits : tie.Need-overflow-shl-bits
-shl-bits c = omega (arith, and_mask c.before.args.i 6)
+shl-bits : tie.Need-overflow_shl-bits
+shl-bits c = omega (arith, and_mask c.args.i 6)
 
-mul-bits : tie.Need-overflow-mul-bits
+mul-bits : tie.Need-offset_bounds-bits-w
 mul-bits c = search rules
 
-slice-read-bits : tie.Need-slice-read-bits
+slice-read-bits : tie.Need-bounds-bits-w
 slice-read-bits c = search rules
 
-slice-write-bits : tie.Need-slice-write-bits
+slice-write-bits : tie.Need-bounds-bits-w-then-w-bits
 slice-write-bits c = search rules
 
-same_length : tie.Need-same-length
+same_length : tie.Need-shape_of-bits
 same_length c = search rules
 
-returns : tie.Need-returns
+returns : tie.Need-returns-then-w-bits
 returns c =
-    let a = c.before.before.args in
-    bit-clear a.bits.now a.i (c.slice-known.given (a.i / 64)).fits
+    let a = c.args in
+    bit-clear a.bits.now a.i (c.slice_known-1.given (a.i / 64)).fits
 
-returns-2 : tie.Need-returns-2
-returns-2 c = sym (put-out c.before.args.bits.now c.before.args.i 0 c.if1.false)
+returns-2 : tie.Need-returns-else-w-bits
+returns-2 c = sym (put-out c.args.bits.now c.args.i 0 c.if-w-bits.false)
 
 pub clear_spec : {M : Type 1} → statement M
-clear_spec =
-    tie.close
+clear_spec = tie.close
     (tie.spec shl-bits mul-bits slice-read-bits slice-write-bits same_length returns returns-2)

@@ -10,13 +10,13 @@ use Rattle.operations.proofs.is_full.Tie as tie
 takes-requires : tie.Need-takes-requires
 takes-requires c κs = search rules
 
-returns : tie.Need-returns
+returns : tie.Need-returns-then-got-ne0
 unfolding full_b
-returns c = c.takes.ensures ∙ simp (ne_eqb _ _ c.before.if1.true, and-true)
+returns c = c.takes.ensures ∙ simp (ne_eqb _ _ c.if-got-ne0.true, and-true)
 
-returns-2 : tie.Need-returns-2
+returns-2 : tie.Need-returns-else-got-ne0
 unfolding full_b
-returns-2 c = simp (eq-eqb _ _ c.if1.false, and-false)
+returns-2 c = simp (eq-eqb _ _ c.if-got-ne0.false, and-false)
 
-pub is-full-spec : {M : Type 1} → statement M
-is-full-spec = tie.close (tie.spec takes-requires returns returns-2)
+pub is_full_spec : {M : Type 1} → statement M
+is_full_spec = tie.close (tie.spec takes-requires returns returns-2)

@@ -4,13 +4,13 @@ use Rattle.operations.specs.Operations.{takes_b}
 use Rattle.operations.proofs.takes.Statement.{statement}
 use Rattle.operations.proofs.takes.Tie as tie
 
-returns : tie.Need-returns
+returns : tie.Need-returns-then-operation-eq-TAKE_SHARED
 unfolding takes_b
-returns c = simp (eq-eqb _ _ c.if1.true)
+returns c = simp (eq-eqb _ _ c.if-operation-eq-TAKE_SHARED.true)
 
-returns-2 : tie.Need-returns-2
+returns-2 : tie.Need-returns-else-operation-eq-TAKE_SHARED
 unfolding takes_b
-returns-2 c = simp (ne_eqb _ _ c.if1.false)
+returns-2 c = simp (ne_eqb _ _ c.if-operation-eq-TAKE_SHARED.false)
 
-pub takes-spec : {M : Type 1} → statement M
-takes-spec = tie.close (tie.spec returns returns-2)
+pub takes_spec : {M : Type 1} → statement M
+takes_spec = tie.close (tie.spec returns returns-2)

@@ -5,16 +5,16 @@ use Rattle.operations.specs.Operations.{word_of}
 use Rattle.operations.proofs.word_of.Statement.{statement}
 use Rattle.operations.proofs.word_of.Tie as tie
 
-on-shared-requires : tie.Need-on-shared-requires
+on-shared-requires : tie.Need-on_shared-requires
 on-shared-requires c κs = search rules
 
-returns : tie.Need-returns
+returns : tie.Need-returns-then-on_shared
 unfolding word_of
-returns c = simp (by c.before.on-shared.ensures c.if1.true)
+returns c = simp (by c.on_shared.ensures c.if-on_shared.true)
 
-returns-2 : tie.Need-returns-2
+returns-2 : tie.Need-returns
 unfolding word_of
-returns-2 c = simp (by c.before.on-shared.ensures c.if1.false)
+returns-2 c = simp (by c.on_shared.ensures c.if-on_shared.false)
 
-pub word-of-spec : {M : Type 1} → statement M
-word-of-spec = tie.close (tie.spec on-shared-requires returns returns-2)
+pub word_of_spec : {M : Type 1} → statement M
+word_of_spec = tie.close (tie.spec on-shared-requires returns returns-2)

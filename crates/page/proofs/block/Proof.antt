@@ -9,22 +9,22 @@ use Rattle.page.proofs.Rules.{block_within}
 use Rattle.page.proofs.block.Statement.{statement}
 use Rattle.page.proofs.block.Tie as tie
 
-returns : tie.Need-returns
+returns : tie.Need-returns-then-bw-lt1
 returns c =
-    let bw = c.before.args.bw in
-    ⊎_elim (λ w. simp (lt-leb 1 bw (omega (arith, w.taken))))
-    (λ w. simp (le-leb 1 bw (omega (arith, w.0.left)), lt-leb bw max_width (ltb-true _ _ w.1.taken))) c.if1.branch
+    let bw = c.args.bw in
+    ⊎_elim (λ w. simp (lt-leb 1 bw (omega (arith, w))))
+    (λ w. simp (le-leb 1 bw (omega (arith, w.0)), lt-leb bw max_width w.1)) c.then-bw-lt1.either
 
-mul-result : tie.Need-overflow-mul-result
-mul-result c = omega (arith, ltb-false max_width c.before.before.args.bw c.if2.false)
+mul-result : tie.Need-overflow_mul-result
+mul-result c = omega (arith, c.if-bw-gt-MAX_WIDTH.false)
 
-div-result : tie.Need-nonzero-div-result
+div-result : tie.Need-nonzero_div-result
 div-result c = search rules
 
-returns-2 : tie.Need-returns-2
+returns-2 : tie.Need-returns
 returns-2 c =
-    let x = c.before.before.args in
-    sym (block_within x.bw x.h (omega arith) (ltb-false _ _ c.if2.false))
+    let x = c.args in
+    sym (block_within x.bw x.h (omega arith) c.if-bw-gt-MAX_WIDTH.false)
 
 pub block_spec : {M : Type 1} → statement M
 block_spec = tie.close (tie.spec returns mul-result div-result returns-2)

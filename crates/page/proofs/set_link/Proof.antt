@@ -6,22 +6,22 @@ use lib.Seq.{set_out}
 use Rattle.page.proofs.set_link.Statement.{statement}
 use Rattle.page.proofs.set_link.Tie as tie
 
-mul-page : tie.Need-overflow-mul-page
+mul-page : tie.Need-offset_bounds-page-at
 mul-page c = search rules
 
-slice-write-page : tie.Need-slice-write-page
+slice-write-page : tie.Need-bounds-page-at
 slice-write-page c = search rules
 
-same_length : tie.Need-same-length
+same_length : tie.Need-shape_of-page
 same_length c = search rules
 
-returns : tie.Need-returns
+returns : tie.Need-returns-then-at-page
 returns c = search rules
 
-returns-2 : tie.Need-returns-2
+returns-2 : tie.Need-returns-else-at-page
 returns-2 c =
-    let x = c.before.args in
-    sym (set_out x.page.now (x.h / 8) x.to c.if1.false)
+    let x = c.args in
+    sym (set_out x.page.now (x.h / 8) x.to c.if-at-page.false)
 
-pub set-link-spec : {M : Type 1} → statement M
-set-link-spec = tie.close (tie.spec mul-page slice-write-page same_length returns returns-2)
+pub set_link_spec : {M : Type 1} → statement M
+set_link_spec = tie.close (tie.spec mul-page slice-write-page same_length returns returns-2)

@@ -6,11 +6,11 @@ use Rattle.page.proofs.Rules.{workers-below, workers-not}
 use Rattle.page.proofs.workers_fit.Statement.{statement}
 use Rattle.page.proofs.workers_fit.Tie as tie
 
-returns : tie.Need-returns
-returns c = workers-below _ c.if1.true
+returns : tie.Need-returns-then-w-ge1
+returns c = workers-below _ c.if-w-ge1.true
 
-returns-2 : tie.Need-returns-2
-returns-2 c = lt-leb _ _ c.if1.false ∙ sym (workers-not c.before.args.w (λ f. omega arith))
+returns-2 : tie.Need-returns-else-w-ge1
+returns-2 c = lt-leb _ _ c.if-w-ge1.false ∙ sym (workers-not c.args.w (λ f. omega arith))
 
-pub workers-fit-spec : {M : Type 1} → statement M
-workers-fit-spec = tie.close (tie.spec returns returns-2)
+pub workers_fit_spec : {M : Type 1} → statement M
+workers_fit_spec = tie.close (tie.spec returns returns-2)

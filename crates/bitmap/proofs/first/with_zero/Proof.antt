@@ -8,21 +8,21 @@ use Rattle.bitmap.proofs.Masks.{zero-set, zero-set-other}
 use Rattle.bitmap.proofs.first.with_zero.Statement.{statement}
 use Rattle.bitmap.proofs.first.with_zero.Tie as tie
 
-word-at-requires : tie.Need-word-at-requires
+word-at-requires : tie.Need-word_at-requires
 word-at-requires c κs = search rules
 
-word-at-requires-2 : tie.Need-word-at-requires-2
+word-at-requires-2 : tie.Need-word_at-requires-else-w-eq0
 word-at-requires-2 c κs = search rules
 
-returns : tie.Need-returns
+returns : tie.Need-returns-then-w-eq0
 returns c =
-    let a = c.before.before.before.args in
-    ap (λ (x : ℕ). bit_or x 1) c.word_at.ensures ∙ zero-set a.bits.now ∙ ap (with_zero a.bits.now) (sym c.before.if1.true)
+    let a = c.args in
+    ap (λ (x : ℕ). bit_or x 1) c.word_at.ensures ∙ zero-set a.bits.now ∙ ap (with_zero a.bits.now) (sym c.if-w-eq0.true)
 
-returns-2 : tie.Need-returns-2
+returns-2 : tie.Need-returns-else-w-eq0
 returns-2 c =
-    let a = c.before.before.before.args in
-    c.word-at2.ensures ∙ zero-set-other a.bits.now a.w c.before.if1.false
+    let a = c.args in
+    c.word_at-else-w-eq0.ensures ∙ zero-set-other a.bits.now a.w c.if-w-eq0.false
 
-pub with-zero-spec : {M : Type 1} → statement M
-with-zero-spec = tie.close (tie.spec word-at-requires word-at-requires-2 returns returns-2)
+pub with_zero_spec : {M : Type 1} → statement M
+with_zero_spec = tie.close (tie.spec word-at-requires word-at-requires-2 returns returns-2)

@@ -5,13 +5,13 @@ use Rattle.operations.specs.Operations.{one_of}
 use Rattle.operations.proofs.choice.is_either.Statement.{statement}
 use Rattle.operations.proofs.choice.is_either.Tie as tie
 
-returns : tie.Need-returns
+returns : tie.Need-returns-then-x-a
 unfolding one_of
-returns c = simp (eq-eqb _ _ c.if1.true)
+returns c = simp (eq-eqb _ _ c.if-x-a.true)
 
-returns-2 : tie.Need-returns-2
+returns-2 : tie.Need-returns-else-x-a
 unfolding one_of
-returns-2 c = simp (ne_eqb _ _ c.if1.false, or-false)
+returns-2 c = simp (ne_eqb _ _ c.if-x-a.false, or-false)
 
-pub is-either-spec : {M : Type 1} → statement M
-is-either-spec = tie.close (tie.spec returns returns-2)
+pub is_either_spec : {M : Type 1} → statement M
+is_either_spec = tie.close (tie.spec returns returns-2)

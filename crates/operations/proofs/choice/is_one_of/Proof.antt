@@ -6,16 +6,16 @@ use Rattle.operations.specs.Operations.{one_of}
 use Rattle.operations.proofs.choice.is_one_of.Statement.{statement}
 use Rattle.operations.proofs.choice.is_one_of.Tie as tie
 
-is-either-requires : tie.Need-is-either-requires
+is-either-requires : tie.Need-is_either-requires
 is-either-requires c κs = search rules
 
-returns : tie.Need-returns
+returns : tie.Need-returns-then-x-a
 unfolding one_of
-returns c = simp (eq-eqb _ _ c.if1.true)
+returns c = simp (eq-eqb _ _ c.if-x-a.true)
 
-returns-2 : tie.Need-returns-2
+returns-2 : tie.Need-returns-else-x-a
 unfolding one_of
-returns-2 c = c.is-either.ensures ∙ simp (ne_eqb _ _ c.before.if1.false)
+returns-2 c = c.is_either.ensures ∙ simp (ne_eqb _ _ c.if-x-a.false)
 
-pub is-one-of-spec : {M : Type 1} → statement M
-is-one-of-spec = tie.close (tie.spec is-either-requires returns returns-2)
+pub is_one_of_spec : {M : Type 1} → statement M
+is_one_of_spec = tie.close (tie.spec is-either-requires returns returns-2)
