@@ -17,7 +17,7 @@ use staged::moves::make;
 use staged::start::start;
 
 // An event's words.
-#[derive(Drop)]
+#[derive(Clone, Copy)]
 pub struct Event {
     pub kind: u64,
     pub worker: u64,
@@ -27,7 +27,7 @@ pub struct Event {
 }
 
 // What the workers share: S, T's word and whether T is on.
-#[derive(Drop)]
+#[derive(Clone, Copy)]
 pub struct Common {
     pub shared: u64,
     pub tagged: u64,
@@ -35,7 +35,7 @@ pub struct Common {
 }
 
 // What an event gives back: its answer, the head words, the switch and the worker's record.
-#[derive(Drop)]
+#[derive(Clone, Copy)]
 pub struct Turned {
     pub number: u64,
     pub value: u64,

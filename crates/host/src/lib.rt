@@ -22,7 +22,7 @@ mod spelling;
 
 // An answer, laid out as C expects.
 #[repr(C)]
-#[derive(Drop)]
+#[derive(Clone, Copy)]
 pub struct Answer {
     pub number: u64,
     pub value: u64,

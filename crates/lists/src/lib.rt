@@ -14,7 +14,7 @@ mod clear;
 mod lay;
 
 // The answer, and the heads of own and got after it.
-#[derive(Drop)]
+#[derive(Clone, Copy)]
 pub struct Heads {
     pub number: u64,
     pub value: u64,

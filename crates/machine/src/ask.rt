@@ -28,7 +28,7 @@ pub const RELEASE: u64 = 5;
 pub const ASK_EMPTY: u64 = 13;
 
 // What a request gives back: its answer and the worker's record.
-#[derive(Drop)]
+#[derive(Clone, Copy)]
 pub struct Asked {
     pub number: u64,
     pub value: u64,

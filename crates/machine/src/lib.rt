@@ -16,7 +16,7 @@ pub mod toggle;
 pub const RECORDS: usize = 8;
 
 // The state: the page's numbers, the shared head, the tagged word and its switch, and the worker records.
-#[derive(Drop)]
+#[derive(Clone, Copy)]
 pub struct State {
     pub n: u64,
     pub bw: u64,
@@ -28,7 +28,7 @@ pub struct State {
 }
 
 // An answer and the state after it.
-#[derive(Drop)]
+#[derive(Clone, Copy)]
 pub struct Reply {
     pub number: u64,
     pub value: u64,

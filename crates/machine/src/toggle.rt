@@ -10,7 +10,7 @@ pub const TURNS_ON: u64 = 3;
 pub const TURNS_OFF: u64 = 4;
 
 // The answer, T's word and its switch after it.
-#[derive(Drop)]
+#[derive(Clone, Copy)]
 pub struct Toggled {
     pub number: u64,
     pub value: u64,

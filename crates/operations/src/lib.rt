@@ -34,7 +34,7 @@ pub const SWAPPING: u64 = 4;
 pub const MASKING: u64 = 5;
 
 // A worker's record.
-#[derive(Drop)]
+#[derive(Clone, Copy)]
 pub struct Worker {
     pub own: u64,
     pub got: u64,

@@ -108,7 +108,7 @@ pub fn sound(n: u64, bw: u64, bits: &[u64], h: u64) -> bool
 }
 
 // What a walk tells: whether it came to 0, how many blocks it met, and the last of them (0 if none).
-#[derive(Drop)]
+#[derive(Clone, Copy)]
 pub struct Walked {
     pub sound: bool,
     pub count: u64,

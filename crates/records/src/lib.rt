@@ -7,7 +7,7 @@ ghost use Rattle.records.specs.Records.{is_mark, kind_of, two_bytes, event_at, d
 ghost use Rattle.records.specs.Fill.{going, put_event, turned, filling, next, came, fill_of};
 
 // What a record asks for. A move's flag is its code: nonzero is set.
-#[derive(Drop)]
+#[derive(Clone, Copy)]
 pub struct Event {
     pub kind: u64,
     pub worker: u64,
@@ -17,7 +17,7 @@ pub struct Event {
 }
 
 // What stands at a place of the bytes.
-#[derive(Drop)]
+#[derive(Clone, Copy)]
 pub enum Decoded {
     // a whole record with a known mark
     Event(Event),
@@ -30,7 +30,7 @@ pub enum Decoded {
 }
 
 // How many records were decoded, and why no more.
-#[derive(Drop)]
+#[derive(Clone, Copy)]
 pub struct Filled {
     pub records: u64,
     pub stop: u64,

@@ -10,7 +10,7 @@ use answers::{BAD_PAGE, DAMAGED, IDLE};
 use operations::{EXCHANGING, LOADING, SWAPPING, WRITING, Worker, is_busy};
 
 // What a move gives back: its answer, the two head words and the worker's record.
-#[derive(Drop)]
+#[derive(Clone, Copy)]
 pub struct Moved {
     pub number: u64,
     pub value: u64,

@@ -11,7 +11,7 @@ use operations::choice::only_if;
 use operations::{SET_TAG, Worker, first_stage, is_busy, is_full, is_off, is_staged, pushes};
 
 // What a start gives back.
-#[derive(Drop)]
+#[derive(Clone, Copy)]
 pub struct Begun {
     pub number: u64,
     pub value: u64,

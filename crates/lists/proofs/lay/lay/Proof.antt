@@ -12,60 +12,59 @@ use Rattle.lists.proofs.Arms.{LaidBy, lay-none, lay-more}
 use Rattle.lists.proofs.lay.lay.Statement.{statement}
 use Rattle.lists.proofs.lay.lay.Tie as tie
 
-abbrev invariant-loop : tie.invariant-loop
+abbrev invariant-loop : tie.invariant-loop-left
 invariant-loop page₀ bw a b own head₀ left₀ page head left = (left ≤ b) × LaidBy bw own page₀ (up_from (a + left) (b - left)) head page
 
-abbrev decreases-loop : tie.decreases-loop
+abbrev decreases-loop : tie.decreases-loop-left
 decreases-loop page₀ bw a b own head₀ left₀ page head left = left
 
-loop-holds : tie.Need-loop-init invariant-loop decreases-loop
+loop-holds : tie.Need-loop-left-init invariant-loop decreases-loop
 loop-holds c = (omega arith, lay-none _ _ _ _ _ (omega arith))
 
-sub-left : tie.Need-overflow-sub-left invariant-loop decreases-loop
+sub-left : tie.Need-overflow_sub-left invariant-loop decreases-loop
 sub-left c = search rules
 
-add-address : tie.Need-overflow-add-address invariant-loop decreases-loop
+add-address : tie.Need-overflow_add-a invariant-loop decreases-loop
 add-address c = search rules
 
-address-requires : tie.Need-address-requires invariant-loop decreases-loop
+address-requires : tie.Need-address-at-requires invariant-loop decreases-loop
 address-requires c κs = search rules
 
-set-link-requires : tie.Need-set-link-requires invariant-loop decreases-loop
+set-link-requires : tie.Need-set_link-requires invariant-loop decreases-loop
 set-link-requires c κs = search rules
 
-loop-less : tie.Need-loop-smaller invariant-loop decreases-loop
+loop-less : tie.Need-loop-left-smaller invariant-loop decreases-loop
 loop-less c = search rules
 
-loop-again : tie.Need-loop-preserved invariant-loop decreases-loop
+loop-again : tie.Need-loop-left-preserved invariant-loop decreases-loop
 loop-again c =
-    let x = c.before.before.before.before.before.before.before.before.args in
-    let l = c.before.before.before.before.before.before.loop in (
+    let x = c.args in
+    let l = c.loop-left in (
       omega arith,
       lay-more _ _ _ _ (x.a + l.left) (x.b - l.left) _ (omega arith) (omega arith) (omega arith) (omega arith)
-          c.before.before.before.before.address.ensures c.before.before.set_link.ensures l.invariant.1,
+          c.address-at.ensures c.set_link.ensures l.invariant.1,
     )
 
 -- after the loop all are laid
-all_laid : (c : tie.After-loop invariant-loop decreases-loop) → let x = c.before.before.before.args in up_from (x.a + c.before.loop.left) (x.b - c.before.loop.left) ≡ up_from x.a x.b
+all_laid : (c : tie.After-loop-left invariant-loop decreases-loop) → let x = c.args in up_from (x.a + c.loop-left.left) (x.b - c.loop-left.left) ≡ up_from x.a x.b
 all_laid c = ap₂ up_from (omega arith) (omega arith)
 
-same_length : tie.Need-same-length invariant-loop decreases-loop
+same_length : tie.Need-shape_of-page invariant-loop decreases-loop
 same_length c =
-    let x = c.before.before.before.args in
-    let l = c.before.loop in
+    let x = c.args in
+    let l = c.loop-left in
     ap length l.invariant.1.1 ∙ laid-length (place x.bw) x.page.now x.own (up_from (x.a + l.left) (x.b - l.left))
 
 returns : tie.Need-returns invariant-loop decreases-loop
 returns c =
-    let x = c.before.before.before.args in
-    let l = c.before.loop in (
+    let x = c.args in
+    let l = c.loop-left in (
       l.invariant.1.0 ∙ ap (head_of (place x.bw) x.own) (all_laid c),
       l.invariant.1.1 ∙ ap (laid (place x.bw) x.page.now x.own) (all_laid c),
     )
 
-pub lay-spec : {M : Type 1} → statement M
-lay-spec =
-    tie.close
+pub lay_spec : {M : Type 1} → statement M
+lay_spec = tie.close
     (tie.spec
     invariant-loop
     decreases-loop
