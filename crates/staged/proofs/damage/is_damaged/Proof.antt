@@ -17,106 +17,105 @@ at c page =
     let x = c.args in
     turn x.k x.shared x.tagged x.on (lent x.n x.bw page x.bits.now)
 
-abbrev p1 : tie.Else1 → tie.Start
+abbrev p1 : tie.Else-not-is_paired → tie.Start
 p1 c = c.before.before.before
 
-abbrev p2 : tie.Else2 → tie.Start
+abbrev p2 : tie.Else-hand_bad → tie.Start
 p2 c = p1 c.before.before
 
-abbrev p3 : tie.Else3 → tie.Start
+abbrev p3 : tie.Else-seen_bad → tie.Start
 p3 c = p2 c.before.before
 
-abbrev p4 : tie.Else4 → tie.Start
+abbrev p4 : tie.Else-head_bad → tie.Start
 p4 c = p3 c.before.before.before
 
-abbrev p5 : tie.Else5 → tie.Start
+abbrev p5 : tie.Else-is_off → tie.Start
 p5 c = p4 c.before.before
 
-abbrev p6 : tie.Else6 → tie.Start
+abbrev p6 : tie.Else-sightings_bad → tie.Start
 p6 c = p5 c.before.before
 
-abbrev p7 : tie.Else7 → tie.Start
+abbrev p7 : tie.Else-tag_bad → tie.Start
 p7 c = p6 c.before.before
 
-t1 : (c : tie.Else1) (page : List ℕ) → Past 1 (at (p1 c) page)
-t1 c page = past (at (p1 c) page) 0 (past-none (at (p1 c) page)) (ap not (by-not c.before.is-paired.ensures c.if1.false))
+t1 : (c : tie.Else-not-is_paired) (page : List ℕ) → Past 1 (at (p1 c) page)
+t1 c page = past (at (p1 c) page) 0 (past-none (at (p1 c) page)) (ap not (by c.is_paired.ensures c.if-not-is_paired.false))
 
-t2 : (c : tie.Else2) (page : List ℕ) → Past 2 (at (p2 c) page)
-t2 c page = past (at (p2 c) page) 1 (t1 c.before.before page) (by c.before.hand-bad.ensures c.if2.false)
+t2 : (c : tie.Else-hand_bad) (page : List ℕ) → Past 2 (at (p2 c) page)
+t2 c page = past (at (p2 c) page) 1 (t1 c.before.before page) (by c.hand_bad.ensures c.if-hand_bad.false)
 
-t3 : (c : tie.Else3) (page : List ℕ) → Past 3 (at (p3 c) page)
-t3 c page = past (at (p3 c) page) 2 (t2 c.before.before page) (by c.before.seen-bad.ensures c.if3.false)
+t3 : (c : tie.Else-seen_bad) (page : List ℕ) → Past 3 (at (p3 c) page)
+t3 c page = past (at (p3 c) page) 2 (t2 c.before.before page) (by c.seen_bad.ensures c.if-seen_bad.false)
 
-t4 : (c : tie.Else4) (page : List ℕ) → Past 4 (at (p4 c) page)
+t4 : (c : tie.Else-head_bad) (page : List ℕ) → Past 4 (at (p4 c) page)
 t4 c page =
     past (at (p4 c) page) 3 (t3 c.before.before.before page)
-    (ap (head_bad _ _ _ _) (sym c.before.before.word_of.ensures) ∙ by c.before.head-bad.ensures c.if4.false)
+    (ap (head_bad _ _ _ _) (sym c.word_of.ensures) ∙ by c.head_bad.ensures c.if-head_bad.false)
 
-t5 : (c : tie.Else5) (page : List ℕ) → Past 5 (at (p5 c) page)
-t5 c page = past (at (p5 c) page) 4 (t4 c.before.before page) (by c.before.is-off.ensures c.if5.false)
+t5 : (c : tie.Else-is_off) (page : List ℕ) → Past 5 (at (p5 c) page)
+t5 c page = past (at (p5 c) page) 4 (t4 c.before.before page) (by c.is_off.ensures c.if-is_off.false)
 
-t6 : (c : tie.Else6) (page : List ℕ) → Past 6 (at (p6 c) page)
-t6 c page = past (at (p6 c) page) 5 (t5 c.before.before page) (by c.before.sightings-bad.ensures c.if6.false)
+t6 : (c : tie.Else-sightings_bad) (page : List ℕ) → Past 6 (at (p6 c) page)
+t6 c page = past (at (p6 c) page) 5 (t5 c.before.before page) (by c.sightings_bad.ensures c.if-sightings_bad.false)
 
-t7 : (c : tie.Else7) (page : List ℕ) → Past 7 (at (p7 c) page)
-t7 c page = past (at (p7 c) page) 6 (t6 c.before.before page) (by c.before.tag-bad.ensures c.if7.false)
+t7 : (c : tie.Else-tag_bad) (page : List ℕ) → Past 7 (at (p7 c) page)
+t7 c page = past (at (p7 c) page) 6 (t6 c.before.before page) (by c.tag_bad.ensures c.if-tag_bad.false)
 
-is-paired-requires : tie.Need-is-paired-requires
+is-paired-requires : tie.Need-is_paired-requires
 is-paired-requires c κs = search rules
 
-returns : tie.Need-returns
-returns c = λ page. found _ 0 (past-none _) (ap not (by-not c.before.is-paired.ensures c.if1.true))
+returns : tie.Need-returns-then-not-is_paired
+returns c = λ page. found _ 0 (past-none _) (ap not (by c.is_paired.ensures c.if-not-is_paired.true))
 
-hand-bad-requires : tie.Need-hand-bad-requires
+hand-bad-requires : tie.Need-hand_bad-requires
 hand-bad-requires c κs = search rules
 
-returns-2 : tie.Need-returns-2
-returns-2 c = λ page. found _ 1 (t1 c.before.before page) (by c.before.hand-bad.ensures c.if2.true)
+returns-2 : tie.Need-returns-then-hand_bad
+returns-2 c = λ page. found _ 1 (t1 c.before.before page) (by c.hand_bad.ensures c.if-hand_bad.true)
 
-seen-bad-requires : tie.Need-seen-bad-requires
+seen-bad-requires : tie.Need-seen_bad-requires
 seen-bad-requires c κs = search rules
 
-returns-3 : tie.Need-returns-3
-returns-3 c = λ page. found _ 2 (t2 c.before.before page) (by c.before.seen-bad.ensures c.if3.true)
+returns-3 : tie.Need-returns-then-seen_bad
+returns-3 c = λ page. found _ 2 (t2 c.before.before page) (by c.seen_bad.ensures c.if-seen_bad.true)
 
-word-of-requires : tie.Need-word-of-requires
+word-of-requires : tie.Need-word_of-requires
 word-of-requires c κs = search rules
 
-head-bad-requires : tie.Need-head-bad-requires
+head-bad-requires : tie.Need-head_bad-requires
 head-bad-requires c κs = search rules
 
-returns-4 : tie.Need-returns-4
+returns-4 : tie.Need-returns-then-head_bad
 returns-4 c =
     λ page. found _ 3 (t3 c.before.before.before page)
-    (ap (head_bad _ _ _ _) (sym c.before.before.word_of.ensures) ∙ by c.before.head-bad.ensures c.if4.true)
+    (ap (head_bad _ _ _ _) (sym c.word_of.ensures) ∙ by c.head_bad.ensures c.if-head_bad.true)
 
-is-off-requires : tie.Need-is-off-requires
+is-off-requires : tie.Need-is_off-requires
 is-off-requires c κs = search rules
 
-returns-5 : tie.Need-returns-5
-returns-5 c = λ page. found _ 4 (t4 c.before.before page) (by c.before.is-off.ensures c.if5.true)
+returns-5 : tie.Need-returns-then-is_off
+returns-5 c = λ page. found _ 4 (t4 c.before.before page) (by c.is_off.ensures c.if-is_off.true)
 
-sightings-bad-requires : tie.Need-sightings-bad-requires
+sightings-bad-requires : tie.Need-sightings_bad-requires
 sightings-bad-requires c κs = search rules
 
-returns-6 : tie.Need-returns-6
-returns-6 c = λ page. found _ 5 (t5 c.before.before page) (by c.before.sightings-bad.ensures c.if6.true)
+returns-6 : tie.Need-returns-then-sightings_bad
+returns-6 c = λ page. found _ 5 (t5 c.before.before page) (by c.sightings_bad.ensures c.if-sightings_bad.true)
 
-tag-bad-requires : tie.Need-tag-bad-requires
+tag-bad-requires : tie.Need-tag_bad-requires
 tag-bad-requires c κs = search rules
 
-returns-7 : tie.Need-returns-7
-returns-7 c = λ page. found _ 6 (t6 c.before.before page) (by c.before.tag-bad.ensures c.if7.true)
+returns-7 : tie.Need-returns-then-tag_bad
+returns-7 c = λ page. found _ 6 (t6 c.before.before page) (by c.tag_bad.ensures c.if-tag_bad.true)
 
-is-full-requires : tie.Need-is-full-requires
+is-full-requires : tie.Need-is_full-requires
 is-full-requires c κs = search rules
 
-returns-8 : tie.Need-returns-8
-returns-8 c = λ page. c.is-full.ensures ∙ last-test _ (t7 c.before page)
+returns-8 : tie.Need-returns
+returns-8 c = λ page. c.is_full.ensures ∙ last-test _ (t7 c.before page)
 
-pub is-damaged-spec : {M : Type 1} → statement M
-is-damaged-spec =
-    tie.close
+pub is_damaged_spec : {M : Type 1} → statement M
+is_damaged_spec = tie.close
     (tie.spec
     is-paired-requires
     returns

@@ -4,13 +4,13 @@ use Rattle.staged.specs.Damage.{sightings_bad}
 use Rattle.staged.proofs.damage.sightings_bad.Statement.{statement}
 use Rattle.staged.proofs.damage.sightings_bad.Tie as tie
 
-returns : tie.Need-returns
+returns : tie.Need-returns-then-k-eq-ASK_TAG
 unfolding sightings_bad
-returns c = simp (eq-eqb _ _ c.before.if1.true)
+returns c = simp (eq-eqb _ _ c.if-k-eq-ASK_TAG.true)
 
-returns-2 : tie.Need-returns-2
+returns-2 : tie.Need-returns-else-k-eq-ASK_TAG
 unfolding sightings_bad
-returns-2 c = simp (ne_eqb _ _ c.if1.false)
+returns-2 c = simp (ne_eqb _ _ c.if-k-eq-ASK_TAG.false)
 
-pub sightings-bad-spec : {M : Type 1} → statement M
-sightings-bad-spec = tie.close (tie.spec returns returns-2)
+pub sightings_bad_spec : {M : Type 1} → statement M
+sightings_bad_spec = tie.close (tie.spec returns returns-2)

@@ -4,13 +4,13 @@ use Rattle.staged.specs.Damage.{tag_bad}
 use Rattle.staged.proofs.damage.tag_bad.Statement.{statement}
 use Rattle.staged.proofs.damage.tag_bad.Tie as tie
 
-returns : tie.Need-returns
+returns : tie.Need-returns-then-k-eq-SET_TAG
 unfolding tag_bad
-returns c = simp (eq-eqb _ _ c.before.if1.true)
+returns c = simp (eq-eqb _ _ c.if-k-eq-SET_TAG.true)
 
-returns-2 : tie.Need-returns-2
+returns-2 : tie.Need-returns-else-k-eq-SET_TAG
 unfolding tag_bad
-returns-2 c = simp (ne_eqb _ _ c.if1.false)
+returns-2 c = simp (ne_eqb _ _ c.if-k-eq-SET_TAG.false)
 
-pub tag-bad-spec : {M : Type 1} → statement M
-tag-bad-spec = tie.close (tie.spec returns returns-2)
+pub tag_bad_spec : {M : Type 1} → statement M
+tag_bad_spec = tie.close (tie.spec returns returns-2)

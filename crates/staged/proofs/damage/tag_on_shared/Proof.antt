@@ -5,23 +5,22 @@ use Rattle.staged.specs.Damage.{tag_on_shared}
 use Rattle.staged.proofs.damage.tag_on_shared.Statement.{statement}
 use Rattle.staged.proofs.damage.tag_on_shared.Tie as tie
 
-on-shared-requires : tie.Need-on-shared-requires
+on-shared-requires : tie.Need-on_shared-requires
 on-shared-requires c κs = search rules
 
-masked-ptr-delay-get-delay-requires : tie.Need-masked-ptr-delay-get-delay-requires
+masked-ptr-delay-get-delay-requires : tie.Need-masked_ptr_delay_get_delay-requires
 masked-ptr-delay-get-delay-requires c κs = search rules
 
-returns : tie.Need-returns
+returns : tie.Need-returns-then-on_shared
 unfolding tag_on_shared
-returns c = simp (by c.before.before.on-shared.ensures c.before.if1.true, c.masked-ptr-delay-get-delay.ensures)
+returns c = simp (by c.on_shared.ensures c.if-on_shared.true, c.masked_ptr_delay_get_delay.ensures)
 
-returns-2 : tie.Need-returns-2
+returns-2 : tie.Need-returns-else-on_shared
 unfolding tag_on_shared
-returns-2 c = simp (c.if1.false, by c.before.on-shared.ensures c.if1.false)
+returns-2 c = simp (c.if-on_shared.false, by c.on_shared.ensures c.if-on_shared.false)
 
-pub tag-on-shared-spec : {M : Type 1} → statement M
-tag-on-shared-spec =
-    tie.close
+pub tag_on_shared_spec : {M : Type 1} → statement M
+tag_on_shared_spec = tie.close
     (tie.spec
     on-shared-requires
     masked-ptr-delay-get-delay-requires

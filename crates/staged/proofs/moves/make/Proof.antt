@@ -1,4 +1,5 @@
 -- `staged::moves::make` meets its contract. Assumes nothing.
+use native.Mathlib.Omega.{arith}
 use mathlib.Core.Bool.{Bool, false, true}
 use mathlib.Core.Path.{◌∙◌, ◌≡◌, refl}
 use borrow.Author.Rules.{rules}
@@ -21,31 +22,31 @@ at c =
     let x = c.args in
     turn x.k x.shared x.tagged x.on (lent x.n x.bw x.page.now x.bits.now)
 
-abbrev p1 : tie.Else1 → tie.Start
+abbrev p1 : tie.Else-not-fits → tie.Start
 p1 c = c.before.before.before.before
 
-abbrev p2 : tie.Else2 → tie.Else1
+abbrev p2 : tie.Else-not-is_busy → tie.Else-not-fits
 p2 c = c.before.before
 
-abbrev p3 : tie.Else3 → tie.Else2
+abbrev p3 : tie.Else-is_damaged → tie.Else-not-is_busy
 p3 c = c.before.before
 
-fits : (c : tie.Else1) → keeps_rules_b (at (p1 c)).lent ≡ true
-fits c = by-not c.before.fits2.ensures c.if1.false
+fits : (c : tie.Else-not-fits) → keeps_rules_b (at (p1 c)).lent ≡ true
+fits c = by c.fits.ensures c.if-not-fits.false
 
-works : (c : tie.Else2) → busy_b (at (p1 (p2 c))).worker ≡ true
-works c = by-not c.before.is-busy.ensures c.if2.false
+works : (c : tie.Else-not-is_busy) → busy_b (at (p1 (p2 c))).worker ≡ true
+works c = by c.is_busy.ensures c.if-not-is_busy.false
 
 -- past them the move is not refused
-module _ (c : tie.Else3) where
+module _ (c : tie.Else-is_damaged) where
   abbrev t : Turn
   t = at (p1 (p2 (p3 c)))
 
-  rules : Rules t.lent
-  rules = rules-facts t.lent (fits (p2 (p3 c)))
+  keeps : Rules t.lent
+  keeps = rules-facts t.lent (fits (p2 (p3 c)))
 
   whole : damaged_b t ≡ false
-  whole = by (c.before.is-damaged.ensures t.lent.page) c.if3.false
+  whole = by (c.is_damaged.ensures t.lent.page) c.if-is_damaged.false
 
   goes : (flag : Bool) {o : Outcome Turn} → o ≡ move_act t flag → o ≡ move_of t flag
   goes flag e = move-is t flag (fits (p2 (p3 c))) (works (p3 c)) whole e
@@ -56,34 +57,34 @@ fits-requires c κs = search rules
 refuse-requires : tie.Need-refuse-requires
 refuse-requires c κs = search rules
 
-returns : tie.Need-returns
+returns : tie.Need-returns-then-not-fits
 returns c =
-    left c.refuse.ensures _ _ ∙ move-is _ _ (by-not c.before.before.fits2.ensures c.before.if1.true) refl refl refl
+    left c.refuse.ensures _ _ ∙ move-is _ _ (by c.fits.ensures c.if-not-fits.true) refl refl refl
 
-is-busy-requires : tie.Need-is-busy-requires
+is-busy-requires : tie.Need-is_busy-requires
 is-busy-requires c κs = search rules
 
-refuse-requires-2 : tie.Need-refuse-requires-2
+refuse-requires-2 : tie.Need-refuse-requires-then-not-is_busy
 refuse-requires-2 c κs = search rules
 
-returns-2 : tie.Need-returns-2
+returns-2 : tie.Need-returns-then-not-is_busy
 returns-2 c =
-    left c.refuse2.ensures _ _
-    ∙ move-is _ _ (fits c.before.before.before) (by-not c.before.before.is-busy.ensures c.before.if2.true) refl refl
+    left c.refuse-then-not-is_busy.ensures _ _
+    ∙ move-is _ _ (fits c.before.before.before) (by c.is_busy.ensures c.if-not-is_busy.true) refl refl
 
-is-damaged-requires : tie.Need-is-damaged-requires
+is-damaged-requires : tie.Need-is_damaged-requires
 is-damaged-requires c κs = search rules
 
-refuse-requires-3 : tie.Need-refuse-requires-3
+refuse-requires-3 : tie.Need-refuse-requires-then-is_damaged
 refuse-requires-3 c κs = search rules
 
-returns-3 : tie.Need-returns-3
+returns-3 : tie.Need-returns-then-is_damaged
 returns-3 c =
-    left c.refuse3.ensures _ _
+    left c.refuse-then-is_damaged.ensures _ _
     ∙ move-is _ _
     (fits c.before.before.before.before.before)
     (works c.before.before.before)
-    (by (c.before.before.is-damaged.ensures _) c.before.if3.true)
+    (by (c.is_damaged.ensures _) c.if-is_damaged.true)
     refl
 
 load-requires : tie.Need-load-requires
@@ -91,47 +92,45 @@ load-requires c κs = search rules
 
 write-requires : tie.Need-write-requires
 write-requires c κs =
-    let r = rules c.before.before in
-    (r.narrow, writes (t c.before.before) (whole c.before.before) r c.before.match.keys2)
+    let r = keeps c.before.before in
+    (r.narrow, writes (t c.before.before) (whole c.before.before) r c.in-2.is)
 
 exchange-requires : tie.Need-exchange-requires
-exchange-requires c κs = fitting (t c.before) (whole c.before) (rules c.before)
+exchange-requires c κs = fitting (t c.before) (whole c.before) (keeps c.before)
 
 swap-requires : tie.Need-swap-requires
 swap-requires c κs =
-    let r = rules c.before in
+    let r = keeps c.before in
     (r.some, r.narrow)
 
 mask-requires : tie.Need-mask-requires
 mask-requires c κs =
-    let r = rules c.before in
+    let r = keeps c.before in
     (r.some, r.narrow)
 
-returns-4 : tie.Need-returns-4
-returns-4 c = c.load.ensures _ _ ∙ goes c.before.before _ (act-at _ _ 1 c.before.match.keys1)
+returns-4 : tie.Need-returns-in-1
+returns-4 c = c.load.ensures _ _ ∙ goes c.before.before _ (act-at _ _ 1 c.in-1.is)
 
-same_length : tie.Need-same-length
+same_length : tie.Need-shape_of-page
 same_length c = search rules
 
-returns-5 : tie.Need-returns-5
+returns-5 : tie.Need-returns-in-2
 returns-5 c =
-    c.before.before.write.ensures _ _ _
-    ∙ goes c.before.before.before.before.before _ (act-at _ _ 2 c.before.before.before.before.match.keys2)
+    c.write.ensures _ _ _
+    ∙ goes c.before.before.before.before.before _ (act-at _ _ 2 c.in-2.is)
 
-returns-6 : tie.Need-returns-6
-returns-6 c = c.exchange.ensures _ _ _ _ ∙ goes c.before.before _ (act-at _ _ 3 c.before.match.keys3)
+returns-6 : tie.Need-returns-in-3
+returns-6 c = c.exchange.ensures _ _ _ _ ∙ goes c.before.before _ (act-at _ _ 3 c.in-3.is)
 
-returns-7 : tie.Need-returns-7
-returns-7 c = c.swap.ensures _ _ _ _ ∙ goes c.before.before _ (act-at _ _ 4 c.before.match.keys4)
+returns-7 : tie.Need-returns-in-4
+returns-7 c = c.swap.ensures _ _ _ _ ∙ goes c.before.before _ (act-at _ _ 4 c.in-4.is)
 
-returns-8 : tie.Need-returns-8
+returns-8 : tie.Need-returns-in_default
 returns-8 c =
-    let r = c.before.match.rest in
-    c.mask.ensures _ _ _ _ ∙ goes c.before.before _ (act-rest _ _ r.0.0.0.1 r.0.0.1 r.0.1 r.1)
+    c.mask.ensures _ _ _ _ ∙ goes c.before.before _ (act-rest _ _ (omega arith) (omega arith) (omega arith) (omega arith))
 
 pub make_spec : {M : Type 1} → statement M
-make_spec =
-    tie.close
+make_spec = tie.close
     (tie.spec
     fits-requires
     refuse-requires

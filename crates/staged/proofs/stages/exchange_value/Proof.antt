@@ -6,16 +6,16 @@ use Rattle.staged.specs.Moves.{exchange_value}
 use Rattle.staged.proofs.stages.exchange_value.Statement.{statement}
 use Rattle.staged.proofs.stages.exchange_value.Tie as tie
 
-returns : tie.Need-returns
+returns : tie.Need-returns-then-k-eq-ASK_TAG
 unfolding exchange_value
-returns c = simp (eq-eqb _ _ c.if1.true)
+returns c = simp (eq-eqb _ _ c.if-k-eq-ASK_TAG.true)
 
-masked-ptr-delay-get-delay-requires : tie.Need-masked-ptr-delay-get-delay-requires
+masked-ptr-delay-get-delay-requires : tie.Need-masked_ptr_delay_get_delay-requires
 masked-ptr-delay-get-delay-requires c κs = search rules
 
-returns-2 : tie.Need-returns-2
+returns-2 : tie.Need-returns
 unfolding exchange_value
-returns-2 c = c.masked-ptr-delay-get-delay.ensures ∙ simp (ne_eqb _ _ c.before.if1.false)
+returns-2 c = c.masked_ptr_delay_get_delay.ensures ∙ simp (ne_eqb _ _ c.if-k-eq-ASK_TAG.false)
 
-pub exchange-value-spec : {M : Type 1} → statement M
-exchange-value-spec = tie.close (tie.spec returns masked-ptr-delay-get-delay-requires returns-2)
+pub exchange_value_spec : {M : Type 1} → statement M
+exchange_value_spec = tie.close (tie.spec returns masked-ptr-delay-get-delay-requires returns-2)

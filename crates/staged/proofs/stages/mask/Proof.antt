@@ -5,10 +5,10 @@ use Rattle.staged.proofs.StageArms.{left, mask_is}
 use Rattle.staged.proofs.stages.mask.Statement.{statement}
 use Rattle.staged.proofs.stages.mask.Tie as tie
 
-masked-ptr-delay-get-ptr-requires : tie.Need-masked-ptr-delay-get-ptr-requires
+masked-ptr-delay-get-ptr-requires : tie.Need-masked_ptr_delay_get_ptr-address-requires
 masked-ptr-delay-get-ptr-requires c κs = search rules
 
-masked-ptr-delay-get-delay-requires : tie.Need-masked-ptr-delay-get-delay-requires
+masked-ptr-delay-get-delay-requires : tie.Need-masked_ptr_delay_get_delay-tag-requires
 masked-ptr-delay-get-delay-requires c κs = search rules
 
 block-requires : tie.Need-block-requires
@@ -21,15 +21,14 @@ returns : tie.Need-returns
 returns c =
     λ n on page bits. left c.ends.ensures _ _
     ∙ mask_is _
-    c.before.before.before.before.requires.0
-    c.before.before.before.before.requires.1
-    c.before.before.before.masked-ptr-delay-get-ptr.ensures
-    c.before.before.masked-ptr-delay-get-delay.ensures
-    c.before.block.ensures
+    c.requires.0
+    c.requires.1
+    c.masked_ptr_delay_get_ptr-address.ensures
+    c.masked_ptr_delay_get_delay-tag.ensures
+    c.block.ensures
 
-pub mask-spec : {M : Type 1} → statement M
-mask-spec =
-    tie.close
+pub mask_spec : {M : Type 1} → statement M
+mask_spec = tie.close
     (tie.spec
     masked-ptr-delay-get-ptr-requires
     masked-ptr-delay-get-delay-requires

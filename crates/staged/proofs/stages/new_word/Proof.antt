@@ -13,33 +13,32 @@ pushes-requires c κs = search rules
 address-requires : tie.Need-address-requires
 address-requires c κs = search rules
 
-masked-ptr-delay-set-ptr-requires : tie.Need-masked-ptr-delay-set-ptr-requires
+masked-ptr-delay-set-ptr-requires : tie.Need-masked_ptr_delay_set_ptr-requires
 masked-ptr-delay-set-ptr-requires c κs = search rules
 
-returns : tie.Need-returns
+returns : tie.Need-returns-then-pushes
 returns c =
     push-word _ _
-    c.before.before.before.before.requires
-    (by c.before.before.before.pushes.ensures c.before.before.if1.true)
-    c.before.address.ensures
-    c.masked-ptr-delay-set-ptr.ensures
+    c.requires
+    (by c.pushes.ensures c.if-pushes.true)
+    c.address.ensures
+    c.masked_ptr_delay_set_ptr.ensures
 
-only-if-requires : tie.Need-only-if-requires
+only-if-requires : tie.Need-only_if-requires
 only-if-requires c κs = search rules
 
-masked-ptr-delay-set-delay-requires : tie.Need-masked-ptr-delay-set-delay-requires
+masked-ptr-delay-set-delay-requires : tie.Need-masked_ptr_delay_set_delay-requires
 masked-ptr-delay-set-delay-requires c κs = search rules
 
-returns-2 : tie.Need-returns-2
+returns-2 : tie.Need-returns
 returns-2 c =
     tag_word _ _
-    c.before.before.before.before.before.requires
-    (by c.before.before.before.before.pushes.ensures c.before.before.before.if1.false)
-    (c.masked-ptr-delay-set-delay.ensures ∙ ap (set_delay_of _) c.before.only_if.ensures)
+    c.requires
+    (by c.pushes.ensures c.if-pushes.false)
+    (c.masked_ptr_delay_set_delay.ensures ∙ ap (set_delay_of _) c.only_if.ensures)
 
-pub new-word-spec : {M : Type 1} → statement M
-new-word-spec =
-    tie.close
+pub new_word_spec : {M : Type 1} → statement M
+new_word_spec = tie.close
     (tie.spec
     pushes-requires
     address-requires

@@ -14,7 +14,7 @@ ends-requires c κs = search rules
 returns : tie.Need-returns
 returns c =
     λ n on page bits. left c.ends.ensures _ _
-    ∙ swap_is _ c.before.before.requires.0 c.before.before.requires.1 c.before.block.ensures
+    ∙ swap_is _ c.requires.0 c.requires.1 c.block.ensures
 
 pub swap_spec : {M : Type 1} → statement M
 swap_spec = tie.close (tie.spec block-requires ends-requires returns)

@@ -5,33 +5,32 @@ use Rattle.staged.proofs.StageArms.{left-page, write-is}
 use Rattle.staged.proofs.stages.write.Statement.{statement}
 use Rattle.staged.proofs.stages.write.Tie as tie
 
-masked-ptr-delay-get-ptr-requires : tie.Need-masked-ptr-delay-get-ptr-requires
+masked-ptr-delay-get-ptr-requires : tie.Need-masked_ptr_delay_get_ptr-link-requires
 masked-ptr-delay-get-ptr-requires c κs = search rules
 
 address-requires : tie.Need-address-requires
 address-requires c κs = search rules
 
-set-link-requires : tie.Need-set-link-requires
+set-link-requires : tie.Need-set_link-requires
 set-link-requires c κs = search rules
 
-turns-to-requires : tie.Need-turns-to-requires
+turns-to-requires : tie.Need-turns_to-requires
 turns-to-requires c κs = search rules
 
-same_length : tie.Need-same-length
+same_length : tie.Need-shape_of-page
 same_length c = search rules
 
 returns : tie.Need-returns
 returns c =
-    λ n on bits. left-page c.turns-to.ensures c.before.before.before.set_link.ensures _ _ _ _
+    λ n on bits. left-page c.turns_to.ensures c.set_link.ensures _ _ _ _
     ∙ write-is _
-    c.before.before.before.before.before.before.before.before.requires.0
-    c.before.before.before.before.before.before.before.before.requires.1
-    c.before.before.before.before.address.ensures
-    c.before.before.before.before.before.before.masked-ptr-delay-get-ptr.ensures
+    c.requires.0
+    c.requires.1
+    c.address.ensures
+    c.masked_ptr_delay_get_ptr-link.ensures
 
 pub write_spec : {M : Type 1} → statement M
-write_spec =
-    tie.close
+write_spec = tie.close
     (tie.spec
     masked-ptr-delay-get-ptr-requires
     address-requires

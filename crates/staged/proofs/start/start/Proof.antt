@@ -10,91 +10,90 @@ use Rattle.staged.proofs.start.start.Statement.{statement}
 use Rattle.staged.proofs.start.start.Tie as tie
 
 -- the tests passed so far, and what each told
-abbrev p1 : tie.Else1 → tie.Start
+abbrev p1 : tie.Else-not-start_fits → tie.Start
 p1 c = c.before.before.before
 
-abbrev p2 : tie.Else2 → tie.Else1
+abbrev p2 : tie.Else-is_busy → tie.Else-not-start_fits
 p2 c = c.before.before
 
-abbrev p3 : tie.Else3 → tie.Else2
+abbrev p3 : tie.Else-is_off → tie.Else-is_busy
 p3 c = c.before.before
 
-abbrev p4 : tie.Else4 → tie.Else3
+abbrev p4 : tie.Else-is_full → tie.Else-is_off
 p4 c = c.before.before
 
-fits : (c : tie.Else1) → start_fits_b (p1 c).args.n (p1 c).args.operation (p1 c).args.a ≡ true
-fits c = by-not c.before.start-fits.ensures c.if1.false
+fits : (c : tie.Else-not-start_fits) → start_fits_b (p1 c).args.n (p1 c).args.operation (p1 c).args.a ≡ true
+fits c = by c.start_fits.ensures c.if-not-start_fits.false
 
-rests : (c : tie.Else2) → busy_b (p1 (p2 c)).args.k ≡ false
-rests c = by c.before.is-busy.ensures c.if2.false
+rests : (c : tie.Else-is_busy) → busy_b (p1 (p2 c)).args.k ≡ false
+rests c = by c.is_busy.ensures c.if-is_busy.false
 
-is-on : (c : tie.Else3) → off_b (p1 (p2 (p3 c))).args.operation (p1 (p2 (p3 c))).args.on ≡ false
-is-on c = by c.before.is-off.ensures c.if3.false
+is-on : (c : tie.Else-is_off) → off_b (p1 (p2 (p3 c))).args.operation (p1 (p2 (p3 c))).args.on ≡ false
+is-on c = by c.is_off.ensures c.if-is_off.false
 
-empty : (c : tie.Else4) → full_b (p1 (p2 (p3 (p4 c)))).args.operation (p1 (p2 (p3 (p4 c)))).args.k.got ≡ false
-empty c = by c.before.is-full.ensures c.if4.false
+empty : (c : tie.Else-is_full) → full_b (p1 (p2 (p3 (p4 c)))).args.operation (p1 (p2 (p3 (p4 c)))).args.k.got ≡ false
+empty c = by c.is_full.ensures c.if-is_full.false
 
-abbrev p5 : tie.Else5 → tie.Else4
+abbrev p5 : tie.Else-not-pushes → tie.Else-is_full
 p5 c = c.before.before
 
-pushing : (c : tie.Else5) → pushes_b (p1 (p2 (p3 (p4 (p5 c))))).args.operation ≡ true
-pushing c = by-not c.before.pushes.ensures c.if5.false
+pushing : (c : tie.Else-not-pushes) → pushes_b (p1 (p2 (p3 (p4 (p5 c))))).args.operation ≡ true
+pushing c = by c.pushes.ensures c.if-not-pushes.false
 
-start-fits-requires : tie.Need-start-fits-requires
+start-fits-requires : tie.Need-start_fits-requires
 start-fits-requires c κs = search rules
 
 refuse-requires : tie.Need-refuse-requires
 refuse-requires c κs = search rules
 
-returns : tie.Need-returns
+returns : tie.Need-returns-then-not-start_fits
 returns c =
     given c.refuse.ensures refl
-    ∙ start_is _ _ _ _ _ (by-not c.before.before.start-fits.ensures c.before.if1.true) refl refl refl refl refl
+    ∙ start_is _ _ _ _ _ (by c.start_fits.ensures c.if-not-start_fits.true) refl refl refl refl refl
 
-is-busy-requires : tie.Need-is-busy-requires
+is-busy-requires : tie.Need-is_busy-requires
 is-busy-requires c κs = search rules
 
-refuse-requires-2 : tie.Need-refuse-requires-2
+refuse-requires-2 : tie.Need-refuse-requires-then-is_busy
 refuse-requires-2 c κs = search rules
 
-returns-2 : tie.Need-returns-2
+returns-2 : tie.Need-returns-then-is_busy
 returns-2 c =
-    given c.refuse2.ensures refl
+    given c.refuse-then-is_busy.ensures refl
     ∙ start_is _ _ _ _ _
     (fits c.before.before.before)
-    (by c.before.before.is-busy.ensures c.before.if2.true)
+    (by c.is_busy.ensures c.if-is_busy.true)
     refl refl refl refl
 
-is-off-requires : tie.Need-is-off-requires
+is-off-requires : tie.Need-is_off-requires
 is-off-requires c κs = search rules
 
-refuse-requires-3 : tie.Need-refuse-requires-3
+refuse-requires-3 : tie.Need-refuse-requires-then-is_off
 refuse-requires-3 c κs = search rules
 
-returns-3 : tie.Need-returns-3
+returns-3 : tie.Need-returns-then-is_off
 returns-3 c =
-    given c.refuse3.ensures refl
+    given c.refuse-then-is_off.ensures refl
     ∙ start_is _ _ _ _ _
     (fits c.before.before.before.before.before)
     (rests c.before.before.before)
-    (by c.before.before.is-off.ensures c.before.if3.true)
+    (by c.is_off.ensures c.if-is_off.true)
     refl refl refl
 
-is-full-requires : tie.Need-is-full-requires
+is-full-requires : tie.Need-is_full-requires
 is-full-requires c κs = search rules
 
-refuse-requires-4 : tie.Need-refuse-requires-4
+refuse-requires-4 : tie.Need-refuse-requires-then-is_full
 refuse-requires-4 c κs = search rules
 
-returns-4 : tie.Need-returns-4
+returns-4 : tie.Need-returns-then-is_full
 returns-4 c =
-    let p : tie.Else3 = c.before.before.before in
-    given c.refuse4.ensures refl
+    given c.refuse-then-is_full.ensures refl
     ∙ start_is _ _ _ _ _
-    (fits (p2 (p3 p)))
-    (rests (p3 p))
-    (is-on p)
-    (by c.before.before.is-full.ensures c.before.if4.true)
+    (fits (p2 (p3 c.before.before.before)))
+    (rests (p3 c.before.before.before))
+    (is-on c.before.before.before)
+    (by c.is_full.ensures c.if-is_full.true)
     refl refl
 
 pushes-requires : tie.Need-pushes-requires
@@ -103,34 +102,32 @@ pushes-requires c κs = search rules
 begin-requires : tie.Need-begin-requires
 begin-requires c κs = search rules
 
-returns-5 : tie.Need-returns-5
+returns-5 : tie.Need-returns-then-not-pushes
 returns-5 c =
-    let p : tie.Else4 = c.before.before.before in
     given c.begin.ensures refl
     ∙ start_is _ _ _ _ _
-    (fits (p2 (p3 (p4 p))))
-    (rests (p3 (p4 p)))
-    (is-on (p4 p))
-    (empty p)
-    (by-not c.before.before.pushes.ensures c.before.if5.true)
+    (fits (p2 (p3 (p4 c.before.before.before))))
+    (rests (p3 (p4 c.before.before.before)))
+    (is-on (p4 c.before.before.before))
+    (empty c.before.before.before)
+    (by c.pushes.ensures c.if-not-pushes.true)
     refl
 
-is-set-requires : tie.Need-is-set-requires
+is-set-requires : tie.Need-is_set-requires
 is-set-requires c κs = search rules
 
-refuse-requires-5 : tie.Need-refuse-requires-5
+refuse-requires-5 : tie.Need-refuse-requires-then-is_set
 refuse-requires-5 c κs = search rules
 
-same_length : tie.Need-same-length
+same_length : tie.Need-shape_of-bits-then-is_set
 same_length c = search rules
 
-returns-6 : tie.Need-returns-6
+returns-6 : tie.Need-returns-then-is_set
 returns-6 c =
-    let p : tie.Else4 = c.before.before.before.before.before.before in
-    given c.refuse5.ensures refl
-    ∙ start_is _ _ _ _ _ (fits (p2 (p3 (p4 p)))) (rests (p3 (p4 p))) (is-on (p4 p)) (empty p)
-    (pushing c.before.before.before.before)
-    (by c.before.before.is_set.ensures c.before.if6.true)
+    given c.refuse-then-is_set.ensures refl
+    ∙ start_is _ _ _ _ _ (fits (p2 (p3 (p4 c.before.before.before.before.before)))) (rests (p3 (p4 c.before.before.before.before.before))) (is-on (p4 c.before.before.before.before.before)) (empty c.before.before.before.before.before)
+    (pushing c.before.before.before)
+    (by c.is_set.ensures c.if-is_set.true)
 
 set-requires : tie.Need-set-requires
 set-requires c κs = search rules
@@ -138,20 +135,18 @@ set-requires c κs = search rules
 begin-requires-2 : tie.Need-begin-requires-2
 begin-requires-2 c κs = search rules
 
-same-length-2 : tie.Need-same-length-2
+same-length-2 : tie.Need-shape_of-bits
 same-length-2 c = search rules
 
-returns-7 : tie.Need-returns-7
+returns-7 : tie.Need-returns
 returns-7 c =
-    let p : tie.Else4 = c.before.before.before.before.before.before.before.before.before.before in
-    given c.begin2.ensures c.before.before.before.set.ensures
-    ∙ start_is _ _ _ _ _ (fits (p2 (p3 (p4 p)))) (rests (p3 (p4 p))) (is-on (p4 p)) (empty p)
-    (pushing c.before.before.before.before.before.before.before.before)
-    (by c.before.before.before.before.before.before.is_set.ensures c.before.before.before.before.before.if6.false)
+    given c.begin-2.ensures c.set.ensures
+    ∙ start_is _ _ _ _ _ (fits (p2 (p3 (p4 c.before.before.before.before.before.before.before.before.before)))) (rests (p3 (p4 c.before.before.before.before.before.before.before.before.before))) (is-on (p4 c.before.before.before.before.before.before.before.before.before)) (empty c.before.before.before.before.before.before.before.before.before)
+    (pushing c.before.before.before.before.before.before.before)
+    (by c.is_set.ensures c.if-is_set.false)
 
 pub start_spec : {M : Type 1} → statement M
-start_spec =
-    tie.close
+start_spec = tie.close
     (tie.spec
     start-fits-requires
     refuse-requires

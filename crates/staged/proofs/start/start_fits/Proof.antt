@@ -10,29 +10,28 @@ use Rattle.staged.proofs.start.start_fits.Tie as tie
 pushes-requires : tie.Need-pushes-requires
 pushes-requires c κs = search rules
 
-is-block-requires : tie.Need-is-block-requires
+is-block-requires : tie.Need-is_block-requires
 is-block-requires c κs = search rules
 
-returns : tie.Need-returns
+returns : tie.Need-returns-then-pushes
 unfolding start_fits_b
-returns c = c.is_Block.ensures ∙ simp (by c.before.before.pushes.ensures c.before.if1.true)
+returns c = c.is_block.ensures ∙ simp (by c.pushes.ensures c.if-pushes.true)
 
-returns-2 : tie.Need-returns-2
+returns-2 : tie.Need-returns-then-operation-eq-SET_TAG
 unfolding start_fits_b
-returns-2 c = simp (by c.before.before.pushes.ensures c.before.if1.false, eq-eqb _ _ c.if2.true)
+returns-2 c = simp (by c.pushes.ensures c.if-pushes.false, eq-eqb _ _ c.if-operation-eq-SET_TAG.true)
 
-is-staged-requires : tie.Need-is-staged-requires
+is-staged-requires : tie.Need-is_staged-requires
 is-staged-requires c κs = search rules
 
-returns-3 : tie.Need-returns-3
+returns-3 : tie.Need-returns
 unfolding start_fits_b
 returns-3 c =
-    c.is-staged.ensures
-    ∙ simp (by c.before.before.before.pushes.ensures c.before.before.if1.false, ne_eqb _ _ c.before.if2.false)
+    c.is_staged.ensures
+    ∙ simp (by c.pushes.ensures c.if-pushes.false, ne_eqb _ _ c.if-operation-eq-SET_TAG.false)
 
-pub start-fits-spec : {M : Type 1} → statement M
-start-fits-spec =
-    tie.close
+pub start_fits_spec : {M : Type 1} → statement M
+start_fits_spec = tie.close
     (tie.spec
     pushes-requires
     is-block-requires
