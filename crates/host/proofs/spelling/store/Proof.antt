@@ -20,7 +20,7 @@ decreases-loop words₀ s i₀ words i = max_workers - i
 
 -- a state has eight records
 eight : (c : tie.Start invariant-loop decreases-loop) → length c.args.t2.workers ≡ max_workers
-eight c = sym (length-map c.args.t2.workers _) ∙ c.well-formed.1.0.1.1.1.1.1.1.1.1.0.1.0.1
+eight c = sym (length-map c.args.t2.workers _) ∙ c.well_formed.1.0.1.1.1.1.1.1.1.1.0.1.0.1
 
 slice-write-words : tie.Need-slice-write-words invariant-loop decreases-loop
 slice-write-words c = search rules

@@ -9,14 +9,14 @@ use Rattle.machine.proofs.guards.rules.Tie as tie
 fits-requires : tie.Need-fits-requires
 fits-requires c κs = search rules
 
-workers-fit-requires : tie.Need-workers-fit-requires
+workers-fit-requires : tie.Need-workers_fit-requires
 workers-fit-requires c κs = search rules
 
-returns : tie.Need-returns
-returns c = c.workers-fit.ensures ∙ and-by _ (by c.before.before.fits2.ensures c.before.if1.true)
+returns : tie.Need-returns-then-fits
+returns c = c.workers_fit.ensures ∙ and-by _ (by c.fits.ensures c.if-fits.true)
 
-returns-2 : tie.Need-returns-2
-returns-2 c = c.if1.false ∙ and-by _ (by c.before.fits2.ensures c.if1.false)
+returns-2 : tie.Need-returns-else-fits
+returns-2 c = c.if-fits.false ∙ and-by _ (by c.fits.ensures c.if-fits.false)
 
-pub rules-spec : {M : Type 1} → statement M
-rules-spec = tie.close (tie.spec fits-requires workers-fit-requires returns returns-2)
+pub rules_spec : {M : Type 1} → statement M
+rules_spec = tie.close (tie.spec fits-requires workers-fit-requires returns returns-2)

@@ -1,7 +1,7 @@
 -- `machine::switch::switch_off` meets its contract. Assumes nothing.
 use mathlib.Core.Path.{ap, ◌∙◌}
 use mathlib.Core.Bool.{Bool}
-use Rattle.answers.proofs.Rows.{by-not}
+use Rattle.answers.proofs.Rows.{by, by-not}
 use Rattle.machine.specs.Config.{config, rules_b}
 use Rattle.machine.specs.Parts.{toggle_off_of}
 use Rattle.machine.proofs.GuardArms.{came-by}
@@ -16,34 +16,32 @@ rules-requires c κs = search rules
 refuse-requires : tie.Need-refuse-requires
 refuse-requires c κs = search rules
 
-returns : tie.Need-returns
+returns : tie.Need-returns-then-not-rules
 unfolding rules_b
 returns c =
-    came-by c.refuse.ensures ∙ off-refused _ (by-not c.before.before.rules.ensures c.before.if1.true)
+    came-by c.refuse.ensures ∙ off-refused _ (by c.rules.ensures c.if-not-rules.true)
 
-any-busy-requires : tie.Need-any-busy-requires
+any-busy-requires : tie.Need-any_busy-any-requires
 any-busy-requires c κs = search rules
 
-toggle-off-requires : tie.Need-toggle-off-requires
+toggle-off-requires : tie.Need-toggle_off-t-requires
 toggle-off-requires c κs = search rules
 
-with-toggled-requires : tie.Need-with-toggled-requires
+with-toggled-requires : tie.Need-with_toggled-requires
 with-toggled-requires c κs = search rules
 
-returns-2 : tie.Need-returns-2
+returns-2 : tie.Need-returns
 unfolding rules_b
 returns-2 c =
-    let e = c.before.before.before in
-    let x = e.before.before.before.before.args in
+    let x = c.args in
     let here = config x.state x.page.now x.bits.now in
-    came-by c.with-toggled.ensures
-    ∙ ap (with_toggled here) c.before.toggle-off.ensures
-    ∙ ap (λ (any : Bool). with_toggled here (toggle_off_of any x.state.tagged x.state.on)) c.before.before.any-busy.ensures
-    ∙ switches-off here (by-not e.before.rules.ensures e.if1.false)
+    came-by c.with_toggled.ensures
+    ∙ ap (with_toggled here) c.toggle_off-t.ensures
+    ∙ ap (λ (any : Bool). with_toggled here (toggle_off_of any x.state.tagged x.state.on)) c.any_busy-any.ensures
+    ∙ switches-off here (by c.rules.ensures c.if-not-rules.false)
 
-pub switch-off-spec : {M : Type 1} → statement M
-switch-off-spec =
-    tie.close
+pub switch_off_spec : {M : Type 1} → statement M
+switch_off_spec = tie.close
     (tie.spec
     rules-requires
     refuse-requires

@@ -10,37 +10,36 @@ use Rattle.machine.proofs.toggle.toggle_off.Tie as tie
 refuse-requires : tie.Need-refuse-requires
 refuse-requires c κs = search rules
 
-returns : tie.Need-returns
-returns c = c.refuse.ensures ∙ off-is _ _ _ c.before.if1.true refl refl refl refl
+returns : tie.Need-returns-then-busy
+returns c = c.refuse.ensures ∙ off-is _ _ _ c.if-busy.true refl refl refl refl
 
-refuse-requires-2 : tie.Need-refuse-requires-2
+refuse-requires-2 : tie.Need-refuse-requires-then-not-on
 refuse-requires-2 c κs = search rules
 
-returns-2 : tie.Need-returns-2
+returns-2 : tie.Need-returns-then-not-on
 returns-2 c =
-    c.refuse2.ensures ∙ off-is _ _ _ c.before.before.if1.false (by-not refl c.before.if2.true) refl refl refl
+    c.refuse-then-not-on.ensures ∙ off-is _ _ _ c.if-busy.false c.if-not-on.true refl refl refl
 
-masked-ptr-delay-get-ptr-requires : tie.Need-masked-ptr-delay-get-ptr-requires
+masked-ptr-delay-get-ptr-requires : tie.Need-masked_ptr_delay_get_ptr-requires
 masked-ptr-delay-get-ptr-requires c κs = search rules
 
-refuse-requires-3 : tie.Need-refuse-requires-3
+refuse-requires-3 : tie.Need-refuse-requires-then-masked_ptr_delay_get_ptr-ne0
 refuse-requires-3 c κs = search rules
 
-returns-3 : tie.Need-returns-3
+returns-3 : tie.Need-returns-then-masked_ptr_delay_get_ptr-ne0
 returns-3 c =
-    c.refuse3.ensures
-    ∙ off-is _ _ _ c.before.before.before.before.if1.false (by-not refl c.before.before.before.if2.false) c.before.before.masked-ptr-delay-get-ptr.ensures (ne_eqb _ _ c.before.if3.true) refl
+    c.refuse-then-masked_ptr_delay_get_ptr-ne0.ensures
+    ∙ off-is _ _ _ c.if-busy.false c.if-not-on.false c.masked_ptr_delay_get_ptr.ensures (ne_eqb _ _ c.if-masked_ptr_delay_get_ptr-ne0.true) refl
 
-masked-ptr-delay-get-delay-requires : tie.Need-masked-ptr-delay-get-delay-requires
+masked-ptr-delay-get-delay-requires : tie.Need-masked_ptr_delay_get_delay-requires
 masked-ptr-delay-get-delay-requires c κs = search rules
 
-returns-4 : tie.Need-returns-4
+returns-4 : tie.Need-returns
 returns-4 c =
-    off-is c.before.before.before.before.before.args.busy c.before.before.before.before.before.args.tagged c.before.before.before.before.before.args.on c.before.before.before.before.if1.false (by-not refl c.before.before.before.if2.false) c.before.before.masked-ptr-delay-get-ptr.ensures (eq-eqb _ _ c.before.if3.false) c.masked-ptr-delay-get-delay.ensures
+    off-is c.args.busy c.args.tagged c.args.on c.if-busy.false c.if-not-on.false c.masked_ptr_delay_get_ptr.ensures (eq-eqb _ _ c.if-masked_ptr_delay_get_ptr-ne0.false) c.masked_ptr_delay_get_delay.ensures
 
-pub toggle-off-spec : {M : Type 1} → statement M
-toggle-off-spec =
-    tie.close
+pub toggle_off_spec : {M : Type 1} → statement M
+toggle_off_spec = tie.close
     (tie.spec
     refuse-requires
     returns

@@ -8,11 +8,11 @@ use Rattle.machine.proofs.toggle.toggle_on.Tie as tie
 refuse-requires : tie.Need-refuse-requires
 refuse-requires c κs = search rules
 
-returns : tie.Need-returns
-returns c = c.refuse.ensures ∙ on-is _ _ c.before.if1.true
+returns : tie.Need-returns-then-on
+returns c = c.refuse.ensures ∙ on-is _ _ c.if-on.true
 
-returns-2 : tie.Need-returns-2
-returns-2 c = on-is c.before.args.tagged _ c.if1.false
+returns-2 : tie.Need-returns
+returns-2 c = on-is c.args.tagged _ c.if-on.false
 
-pub toggle-on-spec : {M : Type 1} → statement M
-toggle-on-spec = tie.close (tie.spec refuse-requires returns returns-2)
+pub toggle_on_spec : {M : Type 1} → statement M
+toggle_on_spec = tie.close (tie.spec refuse-requires returns returns-2)
