@@ -5,33 +5,31 @@ use Rattle.readers.proofs.ReaderArms.{compare-none, compare-some}
 use Rattle.readers.proofs.compare_entries.Statement.{statement}
 use Rattle.readers.proofs.compare_entries.Tie as tie
 
-compare-number-requires : tie.Need-compare-number-requires
+compare-number-requires : tie.Need-compare_number-number-requires
 compare-number-requires c κs = search rules
 
 refuse-requires : tie.Need-refuse-requires
 refuse-requires c κs = search rules
 
-returns : tie.Need-returns
-returns c = c.refuse.ensures ∙ compare-none _ _ _ _ c.before.before.compare-number.ensures c.before.if1.true
+returns : tie.Need-returns-then-number-ne-DONE
+returns c = c.refuse.ensures ∙ compare-none _ _ _ _ c.compare_number-number.ensures c.if-number-ne-DONE.true
 
-entry-requires : tie.Need-entry-requires
+entry-requires : tie.Need-entry-x-requires
 entry-requires c κs = search rules
 
-entry-requires-2 : tie.Need-entry-requires-2
+entry-requires-2 : tie.Need-entry-y-requires
 entry-requires-2 c κs = search rules
 
-equal-leading-requires : tie.Need-equal-leading-requires
+equal-leading-requires : tie.Need-equal_leading-requires
 equal-leading-requires c κs = search rules
 
-returns-2 : tie.Need-returns-2
+returns-2 : tie.Need-returns
 returns-2 c =
-    let d = c.before.before.before in
-    compare-some _ _ _ _ d.before.compare-number.ensures d.if1.false c.before.before.entry.ensures c.before.entry2.ensures
-    c.equal-leading.ensures
+    compare-some _ _ _ _ c.compare_number-number.ensures c.if-number-ne-DONE.false c.entry-x.ensures c.entry-y.ensures
+    c.equal_leading.ensures
 
-pub compare-entries-spec : {M : Type 1} → statement M
-compare-entries-spec =
-    tie.close
+pub compare_entries_spec : {M : Type 1} → statement M
+compare_entries_spec = tie.close
     (tie.spec
     compare-number-requires
     refuse-requires

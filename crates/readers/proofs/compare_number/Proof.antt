@@ -9,75 +9,70 @@ use Rattle.readers.proofs.compare_number.Statement.{statement}
 use Rattle.readers.proofs.compare_number.Tie as tie
 
 -- the way back to each test passed
-abbrev start : tie.Else1 → tie.Start
+abbrev start : tie.Else-not-rules → tie.Start
 start c = c.before.before.before.before
 
-abbrev p1 : tie.Else2 → tie.Else1
+abbrev p1 : tie.Else-not-is_block → tie.Else-not-rules
 p1 c = c.before.before
 
-abbrev p2 : tie.Else3 → tie.Else2
+abbrev p2 : tie.Else-not-is_block-2 → tie.Else-not-is_block
 p2 c = c.before.before
 
-abbrev p3 : tie.Else4 → tie.Else3
+abbrev p3 : tie.Else-is_set → tie.Else-not-is_block-2
 p3 c = c.before.before
 
 -- what each found
-t2 : (c : tie.Else1) → let x = (start c).args in (keeps_rules_b (lent x.n x.bw x.page.now x.bits.now) && workers_b x.w) ≡ true
-t2 c = by-not c.before.rules.ensures c.if1.false
+t2 : (c : tie.Else-not-rules) → let x = (start c).args in (keeps_rules_b (lent x.n x.bw x.page.now x.bits.now) && workers_b x.w) ≡ true
+t2 c = by c.rules.ensures c.if-not-rules.false
 
-t4 : (c : tie.Else2) → let x = (start (p1 c)).args in block_b x.n x.a ≡ true
-t4 c = by-not c.before.is_Block.ensures c.if2.false
+t4 : (c : tie.Else-not-is_block) → let x = (start (p1 c)).args in block_b x.n x.a ≡ true
+t4 c = by c.is_block.ensures c.if-not-is_block.false
 
-t4' : (c : tie.Else3) → let x = (start (p1 (p2 c))).args in block_b x.n x.b ≡ true
-t4' c = by-not c.before.is-block2.ensures c.if3.false
+t4' : (c : tie.Else-not-is_block-2) → let x = (start (p1 (p2 c))).args in block_b x.n x.b ≡ true
+t4' c = by c.is_block-2.ensures c.if-not-is_block-2.false
 
-t9 : (c : tie.Else4) → let x = (start (p1 (p2 (p3 c)))).args in listed_b x.bits.now x.a ≡ false
-t9 c = by c.before.is_set.ensures c.if4.false
+t9 : (c : tie.Else-is_set) → let x = (start (p1 (p2 (p3 c)))).args in listed_b x.bits.now x.a ≡ false
+t9 c = by c.is_set.ensures c.if-is_set.false
 
 rules-requires : tie.Need-rules-requires
 rules-requires c κs = search rules
 
-returns : tie.Need-returns
-returns c = compare-number-is _ _ _ _ (by-not c.before.rules.ensures c.if1.true) refl refl refl refl
+returns : tie.Need-returns-then-not-rules
+returns c = compare-number-is _ _ _ _ (by c.rules.ensures c.if-not-rules.true) refl refl refl refl
 
-is-block-requires : tie.Need-is-block-requires
+is-block-requires : tie.Need-is_block-requires
 is-block-requires c κs = search rules
 
-returns-2 : tie.Need-returns-2
-returns-2 c = compare-number-is _ _ _ _ (t2 c.before.before) (by-not c.before.is_Block.ensures c.if2.true) refl refl refl
+returns-2 : tie.Need-returns-then-not-is_block
+returns-2 c = compare-number-is _ _ _ _ (t2 c.before.before) (by c.is_block.ensures c.if-not-is_block.true) refl refl refl
 
-is-block-requires-2 : tie.Need-is-block-requires-2
+is-block-requires-2 : tie.Need-is_block-requires-2
 is-block-requires-2 c κs = search rules
 
-returns-3 : tie.Need-returns-3
+returns-3 : tie.Need-returns-then-not-is_block-2
 returns-3 c =
-    let e = c.before.before in
-    compare-number-is _ _ _ _ (t2 (p1 e)) (t4 e) (by-not c.before.is-block2.ensures c.if3.true) refl refl
+    compare-number-is _ _ _ _ (t2 (p1 c.before.before)) (t4 c.before.before) (by c.is_block-2.ensures c.if-not-is_block-2.true) refl refl
 
-is-set-requires : tie.Need-is-set-requires
+is-set-requires : tie.Need-is_set-requires
 is-set-requires c κs = search rules
 
-returns-4 : tie.Need-returns-4
+returns-4 : tie.Need-returns-then-is_set
 returns-4 c =
-    let e = c.before.before in
-    compare-number-is _ _ _ _ (t2 (p1 (p2 e))) (t4 (p2 e)) (t4' e) (by c.before.is_set.ensures c.if4.true) refl
+    compare-number-is _ _ _ _ (t2 (p1 (p2 c.before.before))) (t4 (p2 c.before.before)) (t4' c.before.before) (by c.is_set.ensures c.if-is_set.true) refl
 
-is-set-requires-2 : tie.Need-is-set-requires-2
+is-set-requires-2 : tie.Need-is_set-requires-2
 is-set-requires-2 c κs = search rules
 
-returns-5 : tie.Need-returns-5
+returns-5 : tie.Need-returns-then-is_set-2
 returns-5 c =
-    let e = c.before.before in
-    compare-number-is _ _ _ _ (t2 (p1 (p2 (p3 e)))) (t4 (p2 (p3 e))) (t4' (p3 e)) (t9 e) (by c.before.is-set2.ensures c.if5.true)
+    compare-number-is _ _ _ _ (t2 (p1 (p2 (p3 c.before.before)))) (t4 (p2 (p3 c.before.before))) (t4' (p3 c.before.before)) (t9 c.before.before) (by c.is_set-2.ensures c.if-is_set-2.true)
 
-returns-6 : tie.Need-returns-6
+returns-6 : tie.Need-returns
 returns-6 c =
-    let e = c.before.before in
-    compare-number-is _ _ _ _ (t2 (p1 (p2 (p3 e)))) (t4 (p2 (p3 e))) (t4' (p3 e)) (t9 e) (by c.before.is-set2.ensures c.if5.false)
+    compare-number-is _ _ _ _ (t2 (p1 (p2 (p3 c.before.before)))) (t4 (p2 (p3 c.before.before))) (t4' (p3 c.before.before)) (t9 c.before.before) (by c.is_set-2.ensures c.if-is_set-2.false)
 
-pub compare-number-spec : {M : Type 1} → statement M
-compare-number-spec =
-    tie.close
+pub compare_number_spec : {M : Type 1} → statement M
+compare_number_spec = tie.close
     (tie.spec
     rules-requires
     returns

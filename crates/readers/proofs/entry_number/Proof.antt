@@ -9,40 +9,37 @@ use Rattle.readers.proofs.entry_number.Statement.{statement}
 use Rattle.readers.proofs.entry_number.Tie as tie
 
 -- what each test passed found
-t2 : (c : tie.Else1) → let x = c.before.before.before.before.args in (keeps_rules_b (lent x.n x.bw x.page.now x.bits.now) && workers_b x.w) ≡ true
-t2 c = by-not c.before.rules.ensures c.if1.false
+t2 : (c : tie.Else-not-rules) → let x = c.args in (keeps_rules_b (lent x.n x.bw x.page.now x.bits.now) && workers_b x.w) ≡ true
+t2 c = by c.rules.ensures c.if-not-rules.false
 
-t4 : (c : tie.Else2) → let x = c.before.before.before.before.before.before.args in block_b x.n x.a ≡ true
-t4 c = by-not c.before.is_Block.ensures c.if2.false
+t4 : (c : tie.Else-not-is_block) → let x = c.args in block_b x.n x.a ≡ true
+t4 c = by c.is_block.ensures c.if-not-is_block.false
 
 rules-requires : tie.Need-rules-requires
 rules-requires c κs = search rules
 
-returns : tie.Need-returns
-returns c = entry-number-is _ _ _ (by-not c.before.rules.ensures c.if1.true) refl refl
+returns : tie.Need-returns-then-not-rules
+returns c = entry-number-is _ _ _ (by c.rules.ensures c.if-not-rules.true) refl refl
 
-is-block-requires : tie.Need-is-block-requires
+is-block-requires : tie.Need-is_block-requires
 is-block-requires c κs = search rules
 
-returns-2 : tie.Need-returns-2
-returns-2 c = entry-number-is _ _ _ (t2 c.before.before) (by-not c.before.is_Block.ensures c.if2.true) refl
+returns-2 : tie.Need-returns-then-not-is_block
+returns-2 c = entry-number-is _ _ _ (t2 c.before.before) (by c.is_block.ensures c.if-not-is_block.true) refl
 
-is-set-requires : tie.Need-is-set-requires
+is-set-requires : tie.Need-is_set-requires
 is-set-requires c κs = search rules
 
-returns-3 : tie.Need-returns-3
+returns-3 : tie.Need-returns-then-is_set
 returns-3 c =
-    let e = c.before.before in
-    entry-number-is _ _ _ (t2 e.before.before) (t4 e) (by c.before.is_set.ensures c.if3.true)
+    entry-number-is _ _ _ (t2 c.before.before.before.before) (t4 c.before.before) (by c.is_set.ensures c.if-is_set.true)
 
-returns-4 : tie.Need-returns-4
+returns-4 : tie.Need-returns
 returns-4 c =
-    let e = c.before.before in
-    entry-number-is _ _ _ (t2 e.before.before) (t4 e) (by c.before.is_set.ensures c.if3.false)
+    entry-number-is _ _ _ (t2 c.before.before.before.before) (t4 c.before.before) (by c.is_set.ensures c.if-is_set.false)
 
-pub entry-number-spec : {M : Type 1} → statement M
-entry-number-spec =
-    tie.close
+pub entry_number_spec : {M : Type 1} → statement M
+entry_number_spec = tie.close
     (tie.spec
     rules-requires
     returns
