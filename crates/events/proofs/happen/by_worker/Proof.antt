@@ -5,11 +5,11 @@ use Rattle.events.proofs.EventArms.{worker-is}
 use Rattle.events.proofs.happen.by_worker.Statement.{statement}
 use Rattle.events.proofs.happen.by_worker.Tie as tie
 
-returns : tie.Need-returns
-returns c = eq-eqb _ _ c.if1.true ∙ worker-is _ (eq-eqb _ _ c.if1.true)
+returns : tie.Need-returns-then-kind-eq-A_REQUEST
+returns c = eq-eqb _ _ c.if-kind-eq-A_REQUEST.true ∙ worker-is _ (eq-eqb _ _ c.if-kind-eq-A_REQUEST.true)
 
-returns-2 : tie.Need-returns-2
-returns-2 c = worker-is _ (ne_eqb _ _ c.if1.false)
+returns-2 : tie.Need-returns-else-kind-eq-A_REQUEST
+returns-2 c = worker-is _ (ne_eqb _ _ c.if-kind-eq-A_REQUEST.false)
 
-pub by-worker-spec : {M : Type 1} → statement M
-by-worker-spec = tie.close (tie.spec returns returns-2)
+pub by_worker_spec : {M : Type 1} → statement M
+by_worker_spec = tie.close (tie.spec returns returns-2)
