@@ -6,16 +6,16 @@ use Rattle.host.specs.Calls.{handed_of}
 use Rattle.host.proofs.albmerik_compare_entries.Statement.{statement}
 use Rattle.host.proofs.albmerik_compare_entries.Tie as tie
 
-element-copy-out-compare-entries : tie.Need-element-copy-out-compare-entries
+element-copy-out-compare-entries : tie.Need-bounds-state-0
 element-copy-out-compare-entries c = search rules
 
-element-copy-out-compare-entries-2 : tie.Need-element-copy-out-compare-entries-2
+element-copy-out-compare-entries-2 : tie.Need-bounds-state-1
 element-copy-out-compare-entries-2 c = search rules
 
-element-copy-out-compare-entries-3 : tie.Need-element-copy-out-compare-entries-3
+element-copy-out-compare-entries-3 : tie.Need-bounds-state-2
 element-copy-out-compare-entries-3 c = search rules
 
-compare-entries-requires : tie.Need-compare-entries-requires
+compare-entries-requires : tie.Need-compare_entries-requires
 compare-entries-requires c κs = search rules
 
 handed-requires : tie.Need-handed-requires
@@ -23,11 +23,10 @@ handed-requires c κs = search rules
 
 returns : tie.Need-returns
 unfolding spelled
-returns c = c.handed.ensures ∙ ap handed_of c.before.compare-entries.ensures
+returns c = c.handed.ensures ∙ ap handed_of c.compare_entries.ensures
 
-pub albmerik-compare-entries-spec : {M : Type 1} → statement M
-albmerik-compare-entries-spec =
-    tie.close
+pub albmerik_compare_entries_spec : {M : Type 1} → statement M
+albmerik_compare_entries_spec = tie.close
     (tie.spec
     element-copy-out-compare-entries
     element-copy-out-compare-entries-2

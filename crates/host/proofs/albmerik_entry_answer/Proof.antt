@@ -6,16 +6,16 @@ use Rattle.host.specs.Calls.{handed_of}
 use Rattle.host.proofs.albmerik_entry_answer.Statement.{statement}
 use Rattle.host.proofs.albmerik_entry_answer.Tie as tie
 
-element-copy-out-entry-answer : tie.Need-element-copy-out-entry-answer
+element-copy-out-entry-answer : tie.Need-bounds-state-0
 element-copy-out-entry-answer c = search rules
 
-element-copy-out-entry-answer-2 : tie.Need-element-copy-out-entry-answer-2
+element-copy-out-entry-answer-2 : tie.Need-bounds-state-1
 element-copy-out-entry-answer-2 c = search rules
 
-element-copy-out-entry-answer-3 : tie.Need-element-copy-out-entry-answer-3
+element-copy-out-entry-answer-3 : tie.Need-bounds-state-2
 element-copy-out-entry-answer-3 c = search rules
 
-entry-answer-requires : tie.Need-entry-answer-requires
+entry-answer-requires : tie.Need-entry_answer-requires
 entry-answer-requires c κs = search rules
 
 handed-requires : tie.Need-handed-requires
@@ -23,11 +23,10 @@ handed-requires c κs = search rules
 
 returns : tie.Need-returns
 unfolding spelled
-returns c = c.handed.ensures ∙ ap handed_of c.before.entry-answer.ensures
+returns c = c.handed.ensures ∙ ap handed_of c.entry_answer.ensures
 
-pub albmerik-entry-answer-spec : {M : Type 1} → statement M
-albmerik-entry-answer-spec =
-    tie.close
+pub albmerik_entry_answer_spec : {M : Type 1} → statement M
+albmerik_entry_answer_spec = tie.close
     (tie.spec
     element-copy-out-entry-answer
     element-copy-out-entry-answer-2

@@ -11,21 +11,20 @@ use Rattle.host.proofs.albmerik_move.Tie as tie
 load-requires : tie.Need-load-requires
 load-requires c κs = search rules
 
-make-move-requires : tie.Need-make-move-requires
+make-move-requires : tie.Need-make_move-reply-requires
 make-move-requires c κs = search rules
 
 finish-requires : tie.Need-finish-requires
 finish-requires c κs = search rules
 
-same_length : tie.Need-same-length
+same_length : tie.Need-shape_of-page
 same_length c = search rules
 
 returns : tie.Need-returns
 returns c =
-    let x = c.before.before.before.before.before.before.before.before.before.before.args in
-    ended x.state.now c.finish.result c.before.before.before.before.make-move.result c.finish.ensures
-    (of-spelled (λ (s : State). move_of (config s x.page.now x.bits.now) x.worker (flag_of x.flag)) x.state.now c.before.before.before.before.make-move.ensures c.before.before.before.before.before.before.load.ensures)
+    let x = c.args in
+    ended x.state.now c.finish.result c.make_move-reply.result c.finish.ensures
+    (of-spelled (λ (s : State). move_of (config s x.page.now x.bits.now) x.worker (flag_of x.flag)) x.state.now c.make_move-reply.ensures c.load.ensures)
 
-pub albmerik-move-spec : {M : Type 1} → statement M
-albmerik-move-spec =
-    tie.close (tie.spec load-requires make-move-requires finish-requires same_length returns)
+pub albmerik_move_spec : {M : Type 1} → statement M
+albmerik_move_spec = tie.close (tie.spec load-requires make-move-requires finish-requires same_length returns)

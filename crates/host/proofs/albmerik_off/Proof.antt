@@ -10,7 +10,7 @@ use Rattle.host.proofs.albmerik_off.Tie as tie
 load-requires : tie.Need-load-requires
 load-requires c κs = search rules
 
-switch-off-requires : tie.Need-switch-off-requires
+switch-off-requires : tie.Need-switch_off-reply-requires
 switch-off-requires c κs = search rules
 
 finish-requires : tie.Need-finish-requires
@@ -18,9 +18,9 @@ finish-requires c κs = search rules
 
 returns : tie.Need-returns
 returns c =
-    let x = c.before.before.before.before.before.before.before.args in
-    ended x.state.now c.finish.result c.before.before.switch-off.result c.finish.ensures
-    (of-spelled (λ (s : State). switch_off_of (config s x.page.now x.bits.now)) x.state.now c.before.before.switch-off.ensures c.before.before.before.load.ensures)
+    let x = c.args in
+    ended x.state.now c.finish.result c.switch_off-reply.result c.finish.ensures
+    (of-spelled (λ (s : State). switch_off_of (config s x.page.now x.bits.now)) x.state.now c.switch_off-reply.ensures c.load.ensures)
 
-pub albmerik-off-spec : {M : Type 1} → statement M
-albmerik-off-spec = tie.close (tie.spec load-requires switch-off-requires finish-requires returns)
+pub albmerik_off_spec : {M : Type 1} → statement M
+albmerik_off_spec = tie.close (tie.spec load-requires switch-off-requires finish-requires returns)

@@ -9,15 +9,15 @@ use Rattle.host.proofs.finish.Tie as tie
 store-requires : tie.Need-store-requires
 store-requires c κs = search rules
 
-returns : tie.Need-returns
+returns : tie.Need-returns-then-after-lt-BAD_PAGE
 returns c =
-    let x = c.before.before.before.before.before.args in
-    written_is x.words.now x.after.number x.after.value x.after.state (lt-ltb _ _ c.before.before.before.if1.true) c.store.ensures
+    let x = c.args in
+    written_is x.words.now x.after.number x.after.value x.after.state (lt-ltb _ _ c.if-after-lt-BAD_PAGE.true) c.store.ensures
 
-returns-2 : tie.Need-returns-2
+returns-2 : tie.Need-returns-else-after-lt-BAD_PAGE
 returns-2 c =
-    let x = c.before.before.args in
-    written_is x.words.now x.after.number x.after.value x.after.state (le-ltb _ _ c.if1.false) refl
+    let x = c.args in
+    written_is x.words.now x.after.number x.after.value x.after.state (le-ltb _ _ c.if-after-lt-BAD_PAGE.false) refl
 
 pub finish_spec : {M : Type 1} → statement M
 finish_spec = tie.close (tie.spec store-requires returns returns-2)

@@ -13,21 +13,20 @@ load-requires c κs = search rules
 events-requires : tie.Need-events-requires
 events-requires c κs = search rules
 
-same_length : tie.Need-same-length
+same_length : tie.Need-shape_of-page
 same_length c = search rules
 
-same-length-2 : tie.Need-same-length-2
+same-length-2 : tie.Need-shape_of-bits
 same-length-2 c = search rules
 
-same-length-3 : tie.Need-same-length-3
+same-length-3 : tie.Need-shape_of-answers
 same-length-3 c = search rules
 
 returns : tie.Need-returns
 returns c =
-    let x = c.before.before.before.before.before.before.before.before.before.before.before.before.before.before.before.args in
-    of-spelled (λ (s : State). events_of (ran (config s x.page.now x.bits.now) x.answers.now) x.events.now) x.words.now c.before.before.before.before.before.before.events.ensures c.before.before.before.before.before.before.before.before.before.before.load.ensures
+    let x = c.args in
+    of-spelled (λ (s : State). events_of (ran (config s x.page.now x.bits.now) x.answers.now) x.events.now) x.words.now c.events.ensures c.load.ensures
 
 pub run_spec : {M : Type 1} → statement M
-run_spec =
-    tie.close
+run_spec = tie.close
     (tie.spec load-requires events-requires same_length same-length-2 same-length-3 returns)

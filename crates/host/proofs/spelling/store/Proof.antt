@@ -12,74 +12,71 @@ use Rattle.host.proofs.Spelled.{put-more, stored_is}
 use Rattle.host.proofs.spelling.store.Statement.{statement}
 use Rattle.host.proofs.spelling.store.Tie as tie
 
-abbrev invariant-loop : tie.invariant-loop
+abbrev invariant-loop : tie.invariant-loop-i
 invariant-loop words₀ s i₀ words i = (i ≤ max_workers) × (length words ≡ state_words) × (words ≡ sets words₀ 6 (joined (take i s.workers)))
 
-abbrev decreases-loop : tie.decreases-loop
+abbrev decreases-loop : tie.decreases-loop-i
 decreases-loop words₀ s i₀ words i = max_workers - i
 
 -- a state has eight records
-eight : (c : tie.Start invariant-loop decreases-loop) → length c.args.t2.workers ≡ max_workers
-eight c = sym (length-map c.args.t2.workers _) ∙ c.well_formed.1.0.1.1.1.1.1.1.1.1.0.1.0.1
+eight : (c : tie.Start invariant-loop decreases-loop) → length c.args.s.workers ≡ max_workers
+eight c = c.well_formed.1.0.1.1.1.1.1.1.1.1.0.1.0.1
 
-slice-write-words : tie.Need-slice-write-words invariant-loop decreases-loop
+slice-write-words : tie.Need-bounds-words-0 invariant-loop decreases-loop
 slice-write-words c = search rules
 
-slice-write-words-2 : tie.Need-slice-write-words-2 invariant-loop decreases-loop
+slice-write-words-2 : tie.Need-bounds-words-1 invariant-loop decreases-loop
 slice-write-words-2 c = simp length-set (omega arith)
 
-slice-write-words-3 : tie.Need-slice-write-words-3 invariant-loop decreases-loop
+slice-write-words-3 : tie.Need-bounds-words-2 invariant-loop decreases-loop
 slice-write-words-3 c = simp length-set (omega arith)
 
-slice-write-words-4 : tie.Need-slice-write-words-4 invariant-loop decreases-loop
+slice-write-words-4 : tie.Need-bounds-words-3 invariant-loop decreases-loop
 slice-write-words-4 c = simp length-set (omega arith)
 
-slice-write-words-5 : tie.Need-slice-write-words-5 invariant-loop decreases-loop
+slice-write-words-5 : tie.Need-bounds-words-4 invariant-loop decreases-loop
 slice-write-words-5 c = simp length-set (omega arith)
 
-cast-words : tie.Need-overflow-cast-words invariant-loop decreases-loop
+cast-words : tie.Need-overflow_cast-words invariant-loop decreases-loop
 cast-words c = search rules
 
-slice-write-words-6 : tie.Need-slice-write-words-6 invariant-loop decreases-loop
+slice-write-words-6 : tie.Need-bounds-words-5 invariant-loop decreases-loop
 slice-write-words-6 c = simp length-set (omega arith)
 
-loop-holds : tie.Need-loop-init invariant-loop decreases-loop
+loop-holds : tie.Need-loop-i-init invariant-loop decreases-loop
 loop-holds c = (omega arith, simp length-set (omega arith), refl)
 
-mul-k : tie.Need-overflow-mul-k invariant-loop decreases-loop
+mul-k : tie.Need-offset_bounds-s-i invariant-loop decreases-loop
 mul-k c = search rules
 
-element-copy-out-k : tie.Need-element-copy-out-k invariant-loop decreases-loop
+element-copy-out-k : tie.Need-bounds-s-i invariant-loop decreases-loop
 element-copy-out-k c = search rules
 
-put-worker-requires : tie.Need-put-worker-requires invariant-loop decreases-loop
+put-worker-requires : tie.Need-put_worker-requires invariant-loop decreases-loop
 put-worker-requires c κs = search rules
 
-add-i : tie.Need-overflow-add-i invariant-loop decreases-loop
+add-i : tie.Need-overflow_add-i invariant-loop decreases-loop
 add-i c = search rules
 
-loop-less : tie.Need-loop-smaller invariant-loop decreases-loop
+loop-less : tie.Need-loop-i-smaller invariant-loop decreases-loop
 loop-less c = search rules
 
-loop-again : tie.Need-loop-preserved invariant-loop decreases-loop
+loop-again : tie.Need-loop-i-preserved invariant-loop decreases-loop
 loop-again c =
-    let d = c.before.before.before.before.before.before in
-    let s = d.before.before.args.t2 in
-    let e = eight d.before.before in
-    (omega arith, search rules, c.before.before.put-worker.ensures ∙ put-more _ s.workers d.loop.i (omega arith) d.loop.invariant.2)
+    let s = c.args.s in
+    let e = eight c.before.before.before.before.before.before.before.before in
+    (omega arith, search rules, c.put_worker.ensures ∙ put-more _ s.workers c.loop-i.i (omega arith) c.loop-i.invariant.2)
 
-same_length : tie.Need-same-length invariant-loop decreases-loop
+same_length : tie.Need-shape_of-words invariant-loop decreases-loop
 same_length c = search rules
 
 returns : tie.Need-returns invariant-loop decreases-loop
 returns c =
-    let d = c.before.before.before in
-    let s = d.args.t2 in
-    c.before.loop.invariant.2 ∙ stored_is d.args.words.now s c.before.loop.i d.requires (eight d) (omega arith)
+    let s = c.args.s in
+    c.loop-i.invariant.2 ∙ stored_is c.args.words.now s c.loop-i.i c.requires (eight c.before.before.before) (omega arith)
 
 pub store_spec : {M : Type 1} → statement M
-store_spec =
-    tie.close
+store_spec = tie.close
     (tie.spec
     invariant-loop
     decreases-loop
