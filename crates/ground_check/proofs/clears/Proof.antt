@@ -10,38 +10,37 @@ use Rattle.bitmap.specs.Bitmap.{bit_at, bit_put}
 use Rattle.ground_check.proofs.clears.Statement.{statement}
 use Rattle.ground_check.proofs.clears.Tie as tie
 
-slice-aggregate-clear : tie.Need-slice-aggregate-clear
+slice-aggregate-clear : tie.Need-slice_bounds-clear-end
 slice-aggregate-clear c = search rules
 
 clear-requires : tie.Need-clear-requires
 clear-requires c κs = search rules
 
-slice-aggregate-is-set : tie.Need-slice-aggregate-is-set
+slice-aggregate-is-set : tie.Need-slice_bounds-is_set-end
 slice-aggregate-is-set c = search rules
 
-is-set-requires : tie.Need-is-set-requires
+is-set-requires : tie.Need-is_set-requires
 is-set-requires c κs = search rules
 
 expect-requires : tie.Need-expect-requires
 unfolding bit_at bit_put digit put_digit
-expect-requires c κs = ap not (c.is_set.ensures ∙ ap (λ (l : List ℕ). eqb (bit_at l 65) 1) c.before.before.before.clear.ensures)
+expect-requires c κs = ap not (c.is_set.ensures ∙ ap (λ (l : List ℕ). eqb (bit_at l 65) 1) c.clear.ensures)
 
-slice-aggregate-is-set-2 : tie.Need-slice-aggregate-is-set-2
+slice-aggregate-is-set-2 : tie.Need-slice_bounds-is_set-end-2
 slice-aggregate-is-set-2 c = search rules
 
-is-set-requires-2 : tie.Need-is-set-requires-2
+is-set-requires-2 : tie.Need-is_set-requires-2
 is-set-requires-2 c κs = search rules
 
 expect-requires-2 : tie.Need-expect-requires-2
 unfolding bit_at bit_put digit put_digit
-expect-requires-2 c κs = c.is-set2.ensures ∙ ap (λ (l : List ℕ). eqb (bit_at l 66) 1) c.before.before.before.before.before.before.clear.ensures
+expect-requires-2 c κs = c.is_set-2.ensures ∙ ap (λ (l : List ℕ). eqb (bit_at l 66) 1) c.clear.ensures
 
 returns : tie.Need-returns
 returns c = search rules
 
-pub clears-spec : {M : Type 1} → statement M
-clears-spec =
-    tie.close
+pub clears_spec : {M : Type 1} → statement M
+clears_spec = tie.close
     (tie.spec
     slice-aggregate-clear
     clear-requires

@@ -4,20 +4,20 @@ use borrow.Author.Tests.{eq-eqb}
 use Rattle.ground_check.proofs.splits.Statement.{statement}
 use Rattle.ground_check.proofs.splits.Tie as tie
 
-masked-ptr-delay-get-ptr-requires : tie.Need-masked-ptr-delay-get-ptr-requires
+masked-ptr-delay-get-ptr-requires : tie.Need-masked_ptr_delay_get_ptr-requires
 masked-ptr-delay-get-ptr-requires c κs = search rules
 
 expect-requires : tie.Need-expect-requires
-expect-requires c κs = eq-eqb _ 96 c.masked-ptr-delay-get-ptr.ensures
+expect-requires c κs = eq-eqb _ 96 c.masked_ptr_delay_get_ptr.ensures
 
-masked-ptr-delay-get-delay-requires : tie.Need-masked-ptr-delay-get-delay-requires
+masked-ptr-delay-get-delay-requires : tie.Need-masked_ptr_delay_get_delay-requires
 masked-ptr-delay-get-delay-requires c κs = search rules
 
 expect-requires-2 : tie.Need-expect-requires-2
-expect-requires-2 c κs = eq-eqb _ 3 c.masked-ptr-delay-get-delay.ensures
+expect-requires-2 c κs = eq-eqb _ 3 c.masked_ptr_delay_get_delay.ensures
 
 masked-ptr-delay-get-is-use-delayed-requires :
-    tie.Need-masked-ptr-delay-get-is-use-delayed-requires
+    tie.Need-masked_ptr_delay_get_is_use_delayed-requires
 masked-ptr-delay-get-is-use-delayed-requires c κs = search rules
 
 expect-requires-3 : tie.Need-expect-requires-3
@@ -26,9 +26,8 @@ expect-requires-3 c κs = search rules
 returns : tie.Need-returns
 returns c = search rules
 
-pub splits-spec : {M : Type 1} → statement M
-splits-spec =
-    tie.close
+pub splits_spec : {M : Type 1} → statement M
+splits_spec = tie.close
     (tie.spec
     masked-ptr-delay-get-ptr-requires
     expect-requires

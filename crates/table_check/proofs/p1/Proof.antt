@@ -13,5 +13,5 @@ expect-requires c κs = eq-eqb _ 96 c.address.ensures
 returns : tie.Need-returns
 returns c = search rules
 
-pub p1-spec : {M : Type 1} → statement M
-p1-spec = tie.close (tie.spec address-requires expect-requires returns)
+pub p1_spec : {M : Type 1} → statement M
+p1_spec = tie.close (tie.spec address-requires expect-requires returns)

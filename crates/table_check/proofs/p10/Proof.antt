@@ -6,9 +6,6 @@ use Rattle.table_check.proofs.Vectors.{vectors}
 use Rattle.table_check.proofs.p10.Statement.{statement}
 use Rattle.table_check.proofs.p10.Tie as tie
 
-slice-aggregate-answers : tie.Need-slice-aggregate-answers
-slice-aggregate-answers c = search rules
-
 answers-requires : tie.Need-answers-requires
 answers-requires c κs = search rules
 
@@ -24,11 +21,9 @@ expect-requires-2 c κs = eq-eqb _ 0 (c.tagged.ensures ∙ vectors.p10-0)
 returns : tie.Need-returns
 returns c = search rules
 
-pub p10-spec : {M : Type 1} → statement M
-p10-spec =
-    tie.close
+pub p10_spec : {M : Type 1} → statement M
+p10_spec = tie.close
     (tie.spec
-    slice-aggregate-answers
     answers-requires
     expect-requires
     tagged-requires

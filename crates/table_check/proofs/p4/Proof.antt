@@ -13,5 +13,5 @@ expect-requires c κs = c.answers.ensures vectors.p4-answers
 returns : tie.Need-returns
 returns c = search rules
 
-pub p4-spec : {M : Type 1} → statement M
-p4-spec = tie.close (tie.spec answers-requires expect-requires returns)
+pub p4_spec : {M : Type 1} → statement M
+p4_spec = tie.close (tie.spec answers-requires expect-requires returns)

@@ -6,9 +6,6 @@ use Rattle.table_check.proofs.Vectors.{vectors}
 use Rattle.table_check.proofs.p6.Statement.{statement}
 use Rattle.table_check.proofs.p6.Tie as tie
 
-slice-aggregate-answers : tie.Need-slice-aggregate-answers
-slice-aggregate-answers c = search rules
-
 answers-requires : tie.Need-answers-requires
 answers-requires c κs = search rules
 
@@ -25,22 +22,20 @@ word-requires-2 : tie.Need-word-requires-2
 word-requires-2 c κs = search rules
 
 expect-requires-3 : tie.Need-expect-requires-3
-expect-requires-3 c κs = eq-eqb _ 160 (c.word2.ensures ∙ vectors.p6-link-4)
+expect-requires-3 c κs = eq-eqb _ 160 (c.word-2.ensures ∙ vectors.p6-link-4)
 
 word-requires-3 : tie.Need-word-requires-3
 word-requires-3 c κs = search rules
 
 expect-requires-4 : tie.Need-expect-requires-4
-expect-requires-4 c κs = eq-eqb _ 224 (c.word3.ensures ∙ vectors.p6-link-5)
+expect-requires-4 c κs = eq-eqb _ 224 (c.word-3.ensures ∙ vectors.p6-link-5)
 
 returns : tie.Need-returns
 returns c = search rules
 
-pub p6-spec : {M : Type 1} → statement M
-p6-spec =
-    tie.close
+pub p6_spec : {M : Type 1} → statement M
+p6_spec = tie.close
     (tie.spec
-    slice-aggregate-answers
     answers-requires
     expect-requires
     word-requires

@@ -4,9 +4,6 @@ use Rattle.table_check.proofs.Vectors.{vectors}
 use Rattle.table_check.proofs.p7.Statement.{statement}
 use Rattle.table_check.proofs.p7.Tie as tie
 
-slice-aggregate-answers : tie.Need-slice-aggregate-answers
-slice-aggregate-answers c = search rules
-
 answers-requires : tie.Need-answers-requires
 answers-requires c κs = search rules
 
@@ -16,5 +13,5 @@ expect-requires c κs = c.answers.ensures vectors.p7-answers
 returns : tie.Need-returns
 returns c = search rules
 
-pub p7-spec : {M : Type 1} → statement M
-p7-spec = tie.close (tie.spec slice-aggregate-answers answers-requires expect-requires returns)
+pub p7_spec : {M : Type 1} → statement M
+p7_spec = tie.close (tie.spec answers-requires expect-requires returns)

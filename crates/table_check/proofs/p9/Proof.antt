@@ -6,19 +6,13 @@ use Rattle.table_check.proofs.Vectors.{vectors}
 use Rattle.table_check.proofs.p9.Statement.{statement}
 use Rattle.table_check.proofs.p9.Tie as tie
 
-slice-aggregate-run : tie.Need-slice-aggregate-run
-slice-aggregate-run c = search rules
-
-slice-aggregate-answers : tie.Need-slice-aggregate-answers
-slice-aggregate-answers c = search rules
-
 answers-requires : tie.Need-answers-requires
 answers-requires c κs = search rules
 
 expect-requires : tie.Need-expect-requires
 expect-requires c κs = c.answers.ensures vectors.p9-answers
 
-slice-aggregate-tagged : tie.Need-slice-aggregate-tagged
+slice-aggregate-tagged : tie.Need-slice_bounds-tagged-end
 slice-aggregate-tagged c = search rules
 
 tagged-requires : tie.Need-tagged-requires
@@ -31,17 +25,14 @@ tagged-requires-2 : tie.Need-tagged-requires-2
 tagged-requires-2 c κs = search rules
 
 expect-requires-3 : tie.Need-expect-requires-3
-expect-requires-3 c κs = eq-eqb _ 3 (c.tagged2.ensures ∙ vectors.p9-3)
+expect-requires-3 c κs = eq-eqb _ 3 (c.tagged-2.ensures ∙ vectors.p9-3)
 
 returns : tie.Need-returns
 returns c = search rules
 
-pub p9-spec : {M : Type 1} → statement M
-p9-spec =
-    tie.close
+pub p9_spec : {M : Type 1} → statement M
+p9_spec = tie.close
     (tie.spec
-    slice-aggregate-run
-    slice-aggregate-answers
     answers-requires
     expect-requires
     slice-aggregate-tagged

@@ -13,5 +13,5 @@ expect-requires c κs = c.answers.ensures vectors.whole-case-answers
 returns : tie.Need-returns
 returns c = search rules
 
-pub whole-case-spec : {M : Type 1} → statement M
-whole-case-spec = tie.close (tie.spec answers-requires expect-requires returns)
+pub whole_case_spec : {M : Type 1} → statement M
+whole_case_spec = tie.close (tie.spec answers-requires expect-requires returns)

@@ -9,37 +9,36 @@ use Rattle.table_check.specs.Runs.{zeros_run}
 use Rattle.table_check.proofs.runs.answers.Statement.{statement}
 use Rattle.table_check.proofs.runs.answers.Tie as tie
 
-slice-aggregate-run : tie.Need-slice-aggregate-run
+slice-aggregate-run : tie.Need-slice_bounds-run-end
 slice-aggregate-run c = search rules
 
-slice-aggregate-run-2 : tie.Need-slice-aggregate-run-2
+slice-aggregate-run-2 : tie.Need-slice_bounds-run-end-2
 slice-aggregate-run-2 c = search rules
 
-slice-aggregate-run-3 : tie.Need-slice-aggregate-run-3
+slice-aggregate-run-3 : tie.Need-slice_bounds-run-end-3
 slice-aggregate-run-3 c = search rules
 
-run-requires : tie.Need-run-requires
+run-requires : tie.Need-run-r-requires
 run-requires c κs = search rules
 
-returns : tie.Need-returns
+returns : tie.Need-returns-then-r-expected
 unfolding zeros_run
 returns c =
-    λ a. absurd (c.if1.true (let v = ap (λ (o : Outcome Run). o.value) c.before.before.before.before.before.run.ensures in omega (arith, a.count)))
+    λ a. absurd (c.if-r-expected.true (let v = ap (λ (o : Outcome Run). o.value) c.run-r.ensures in omega (arith, a.count)))
 
-slice-aggregate-begins : tie.Need-slice-aggregate-begins
+slice-aggregate-begins : tie.Need-slice_bounds-begins-end
 slice-aggregate-begins c = search rules
 
 begins-requires : tie.Need-begins-requires
 begins-requires c κs = search rules
 
-returns-2 : tie.Need-returns-2
+returns-2 : tie.Need-returns
 unfolding zeros_run
 returns-2 c =
-    λ a. c.begins.ensures (ap (λ (o : Outcome Run). take (length c.before.before.before.before.before.before.before.before.before.before.before.before.before.args.expected.now) o.after.answers) c.before.before.before.before.before.before.before.run.ensures ∙ a.each)
+    λ a. c.begins.ensures (ap (λ (o : Outcome Run). take (length c.args.expected.now) o.after.answers) c.run-r.ensures ∙ a.each)
 
-pub answers-spec : {M : Type 1} → statement M
-answers-spec =
-    tie.close
+pub answers_spec : {M : Type 1} → statement M
+answers_spec = tie.close
     (tie.spec
     slice-aggregate-run
     slice-aggregate-run-2

@@ -8,46 +8,45 @@ use Rattle.table_check.proofs.Running.{filled-room, run_is}
 use Rattle.table_check.proofs.runs.run.Statement.{statement}
 use Rattle.table_check.proofs.runs.run.Tie as tie
 
-slice-aggregate-fill : tie.Need-slice-aggregate-fill
+slice-aggregate-fill : tie.Need-slice_bounds-fill-end
 slice-aggregate-fill c = search rules
 
-fill-requires : tie.Need-fill-requires
+fill-requires : tie.Need-fill-filled-requires
 fill-requires c κs = search rules
 
-mul-used : tie.Need-overflow-mul-used
+mul-used : tie.Need-overflow_mul-used
 mul-used c =
-    omega (arith, filled-room _ _ c.before.fill.ensures)
+    omega (arith, filled-room _ _ c.fill-filled.ensures)
 
-fresh-requires : tie.Need-fresh-requires
+fresh-requires : tie.Need-fresh-start-requires
 fresh-requires c κs = search rules
 
-array-share-prefix-words : tie.Need-array-share-prefix-words
+array-share-prefix-words : tie.Need-slice_bounds-words-end
 array-share-prefix-words c =
-    filled-room _ _ c.before.before.before.before.before.before.before.before.before.fill.ensures
+    filled-room _ _ c.fill-filled.ensures
 
-slice-aggregate-events : tie.Need-slice-aggregate-events
+slice-aggregate-events : tie.Need-slice_bounds-events-end
 slice-aggregate-events c =
-    sym (length-take-le _ _ (filled-room _ _ c.before.before.before.before.before.before.before.before.before.before.fill.ensures))
+    sym (length-take-le _ _ (filled-room _ _ c.fill-filled.ensures))
 
 events-requires : tie.Need-events-requires
 events-requires c κs = search rules
 
-same_length : tie.Need-same-length
+same_length : tie.Need-shape_of-page
 same_length c = search rules
 
-same-length-2 : tie.Need-same-length-2
+same-length-2 : tie.Need-shape_of-bits
 same-length-2 c = search rules
 
-same-length-3 : tie.Need-same-length-3
+same-length-3 : tie.Need-shape_of-answers
 same-length-3 c = search rules
 
 returns : tie.Need-returns
 returns c =
-    run_is _ _ _ _ c.before.before.before.before.before.before.before.before.before.before.before.before.before.before.before.before.before.before.fill.ensures c.before.before.before.before.before.before.before.before.before.before.before.before.before.before.fresh.ensures c.before.before.before.before.before.before.events.ensures
+    run_is _ _ _ _ c.fill-filled.ensures c.fresh-start.ensures c.events.ensures
 
 pub run_spec : {M : Type 1} → statement M
-run_spec =
-    tie.close
+run_spec = tie.close
     (tie.spec
     slice-aggregate-fill
     fill-requires
