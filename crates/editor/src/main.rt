@@ -2,15 +2,18 @@
 // unknown mark or a cut record. It reads and writes here; decoding, the machine and the text are calls.
 #![tactic(auto)]
 
-ghost use Rattle.std.specs.Prelude.{◌≡◌, ◌&&◌, ◌*◌, ◌≤◌, eqb, length};
+ghost use Rattle.std.specs.Prelude.{◌≡◌, ◌&&◌, ◌*◌, ◌≤◌, eqb, length, OnOk};
+ghost use Rattle.std.specs.Io.KnownBytes.{Appends};
 ghost use Rattle.machine.specs.Config.{config};
 ghost use Rattle.editor.specs.Chunk.{Room, performed, perform_of};
 
 mod text;
 
+use anyhow::{Context, Result};
 use events::{ANSWER_WORDS, EVENT_WORDS};
-use libc::{STDERR_FILENO, STDIN_FILENO, STDOUT_FILENO};
 use machine::State;
+use std::io;
+use std::io::{Read, Write};
 
 // The page: n blocks of bw words, W workers.
 const BLOCKS: u64 = 63;
@@ -46,6 +49,13 @@ struct Performed {
     stop: u64,
 }
 
+// How many bytes a read brought, and whether it failed behind them.
+#[derive(Drop)]
+struct Came {
+    bytes: usize,
+    ended: io::Result<()>,
+}
+
 // The state after a turn, and whether another follows.
 #[derive(Drop)]
 struct Turned {
@@ -53,7 +63,7 @@ struct Turned {
     again: bool,
 }
 
-fn main() {
+fn main(rt: HostRuntime) -> Result<()> {
     let mut page = [0u64; PAGE_WORDS];
     let mut bits = [0u64; BITMAP_WORDS];
     let mut bytes = [0u8; BYTES];
@@ -69,11 +79,13 @@ fn main() {
         &mut events,
         &mut answers,
         &mut out,
-    );
+        &mut rt.stdin(),
+        &mut rt.stdout(),
+    )
 }
 
-// Reads, answers and writes until the input ends, `bad` was written, or a write failed.
-fn run(
+// Reads, answers and writes until the input ends, `bad` was written, or a read or a write failed.
+fn run<R: Read, W: Write>(
     state: State,
     page: &mut [u64],
     bits: &mut [u64],
@@ -81,14 +93,13 @@ fn run(
     events: &mut [u64],
     answers: &mut [u64],
     out: &mut [u8],
-)
+    input: &mut R,
+    output: &mut W,
+) -> Result<()>
     requires { Room bytes.old answers.old out.old }
 {
     let mut s = state;
-    let mut again = true;
-    let mut reads = READS;
-    while reads > 0 && again {
-        reads -= 1;
+    for _ in 0..READS {
         let t = turn(
             s,
             &mut *page,
@@ -97,14 +108,20 @@ fn run(
             &mut *events,
             &mut *answers,
             &mut *out,
-        );
+            &mut *input,
+            &mut *output,
+        )?;
+        if !t.again {
+            break;
+        }
         s = t.state;
-        again = t.again;
     }
+    Ok(())
 }
 
-// Reads once, answers the records that came, and writes the answers.
-fn turn(
+// Reads once, answers the records that came, and writes the answers. A read that fails ends the turn once what came before
+// is answered, as the input's end would.
+fn turn<R: Read, W: Write>(
     state: State,
     page: &mut [u64],
     bits: &mut [u64],
@@ -112,28 +129,54 @@ fn turn(
     events: &mut [u64],
     answers: &mut [u64],
     out: &mut [u8],
-) -> Turned
+    input: &mut R,
+    output: &mut W,
+) -> Result<Turned>
     requires { Room bytes.old answers.old out.old }
 {
-    let got = io::read_full(STDIN_FILENO, &mut *bytes);
+    let came = read_full(input, &mut *bytes);
+    let got = came.bytes;
     let r = perform(state, page, bits, &bytes[..got], events, &mut *answers);
     let whole = r.stop == records::ENDED;
     let end = text::chunk(answers, r.records, whole, &mut *out);
-    let done = put(&out[..end]);
+    let done = put(output, &out[..end]);
+    let again = goes_on(done.is_ok(), whole, got, bytes.len());
+    done?;
+    came.ended.context("the records cannot be read")?;
     let next = r.state;
-    Turned {
-        state: next,
-        again: goes_on(done, whole, got, bytes.len()),
+    Ok(Turned { state: next, again })
+}
+
+// Reads until the room is full, the input ends or a read fails.
+fn read_full<R: Read>(input: &mut R, bytes: &mut [u8]) -> Came
+    ensures { result.bytes ≤ length bytes.new }
+{
+    let mut done = 0;
+    while done < bytes.len() {
+        match input.read(&mut bytes[done..]) {
+            Ok(0) => break,
+            Ok(n) => done += n,
+            Err(e) => {
+                return Came {
+                    bytes: done,
+                    ended: Err(e),
+                };
+            }
+        }
+    }
+    Came {
+        bytes: done,
+        ended: Ok(()),
     }
 }
 
-// Writes text. Where that fails, a line to standard error says so, since a program of the kit has no status.
-fn put(text: &[u8]) -> bool {
-    let done = io::write_all(STDOUT_FILENO, text);
-    if !done {
-        io::write_all(STDERR_FILENO, b"the answers cannot be written\n");
-    }
-    done
+// Writes text.
+fn put<W: Write>(output: &mut W, text: &[u8]) -> Result<()>
+    ensures { OnOk result (Appends (W.contents output.old) (W.contents output.new) text.now) }
+{
+    output
+        .write_all(text)
+        .context("the answers cannot be written")
 }
 
 // Whether more is to be read: the text was written, all bytes were records, and they filled their room.
