@@ -25,7 +25,7 @@ sys.path.insert(0, os.path.dirname(os.path.abspath(__file__)))
 import second_reading as reading
 
 PATIENCE = 300
-# Starts a program for x86-64 on any machine.
+# Starts a program for x86-64, and says so where the machine is another.
 START = os.path.join(os.path.dirname(os.path.abspath(__file__)), "start")
 
 
@@ -277,7 +277,7 @@ def main():
     chosen = parser.parse_args()
     program = os.path.abspath(chosen.program)
     if not os.access(program, os.X_OK):
-        sys.exit("streams: no program %s; 'rt check editor' makes target/bin/editor" % program)
+        sys.exit("streams: no program %s; 'tools/build program' makes crates/editor/out/editor" % program)
     compared, waiting, found = 0, set(), None
     source = cases(chosen.count, chosen.seed, chosen.records)
     with concurrent.futures.ThreadPoolExecutor(chosen.jobs) as pool:

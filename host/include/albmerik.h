@@ -2,7 +2,7 @@
  *
  * Up to eight workers hand fixed blocks of one page of memory to each other through lists that are linked inside the
  * blocks: their own lists, a shared list S, and a tagged list T. What each function does is proved; the rules are
- * docs/RULES.md ("document 01" below). Link target/staticlib/libhost.a, which `rt staticlib host` makes (x86-64).
+ * docs/RULES.md ("document 01" below). Link target/staticlib/libhost.a, which `tools/build archive` makes (x86-64).
  *
  * Memory. The host owns all of it: the state, the page, the bitmap, events and answers are lent for one call. Nothing
  * is kept between calls, nothing is allocated, and only the lent words are read or written, the const ones only read.

@@ -1,4 +1,4 @@
-//! Links the archive that `rt staticlib host` writes: target/staticlib/libhost.a of the repository, or the file that
+//! Links the archive that `tools/build archive` writes: target/staticlib/libhost.a of the repository, or the file that
 //! the environment names as ALBMERIK_ARCHIVE.
 
 use std::env;
@@ -20,7 +20,7 @@ fn main() {
     }
     let Ok(found) = archive.canonicalize() else {
         eprintln!(
-            "albmerik: no archive {}: make it with 'rt staticlib host' in the repository's root, or name one as ALBMERIK_ARCHIVE",
+            "albmerik: no archive {}: make it with 'tools/build archive' in the repository's root, or name one as ALBMERIK_ARCHIVE",
             archive.display()
         );
         exit(1);

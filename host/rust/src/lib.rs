@@ -2,7 +2,7 @@
 //!
 //! Up to eight workers hand fixed blocks of one page of memory to each other through lists that are linked inside the
 //! blocks: their own lists, a shared list S, and a tagged list T. What each call does is proved of the archive that
-//! this crate links (`rt staticlib host`); the rules are docs/RULES.md of the repository, cited here as document 01.
+//! this crate links (`tools/build archive`); the rules are docs/RULES.md of the repository, cited here as document 01.
 //!
 //! [`Page`] is the safe face: it owns or borrows its words, and nothing that a caller hands in is undefined. Every
 //! call has an answer for every input; a refusal changes nothing. [`ffi`] has the same calls over plain words.
