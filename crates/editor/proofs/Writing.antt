@@ -1,33 +1,15 @@
 -- Texts put one behind the other. Assumes nothing.
-use Prim.Native.Nat.{ℕ, ◌+◌, ◌*◌, ◌≤◌, ◌<◌}
+use Prim.Native.Nat.{ℕ, ◌+◌, ◌*◌, ◌≤◌}
 use mathlib.Core.Path.{◌≡◌, refl, sym, ap, ◌∙◌, subst}
-use mathlib.Core.Bool.{Bool, cond}
-use mathlib.Core.List.{List, [], ◌∷◌, ◌++◌, append-nil, append_assoc}
+use mathlib.Core.List.{List, [], ◌++◌, append-nil, append_assoc}
 use native.Mathlib.Numerals.{add-one}
-use native.Mathlib.Nat.{add-zero, add-suc}
 use native.Mathlib.Omega.{arith}
-use lib.ListN.{length, take, set, get_or, length-set}
-use lib.Seq.{take-length, take-suc, take-suc-set}
-use Rattle.editor.specs.Text.{Wrote, line_text, lines_text, bad_text, chunk_text}
+use lib.ListN.{length, take, get_or}
+use Rattle.editor.specs.Text.{Wrote, line_text, lines_text}
 
 -- no text
 pub wrote_none : (before : List ℕ) (at : ℕ) → at ≤ length before → Wrote before at [] before at
 wrote_none before at h = record { stands = sym (append-nil (take at before)); room = refl; within = h }
-
--- one byte more
-pub wrote-byte : {before text after : List ℕ} {at end : ℕ} (b : ℕ) → Wrote before at text after end → end < length after
-    → Wrote before at (text ++ (b ∷ [])) (set after end b) (end + 1)
-wrote-byte {before} {text} {after} {at} {end} b w h =
-    let l = length-set after end b in
-    record {
-      stands =
-          ap (λ (k : ℕ). take k (set after end b)) (add-one end)
-          ∙ take-suc-set after end b h
-          ∙ ap (λ (s : List ℕ). s ++ (b ∷ [])) w.stands
-          ∙ append_assoc (take at before) text (b ∷ []);
-      room = l ∙ w.room;
-      within = omega arith;
-    }
 
 -- a text behind a text
 pub wrote_then : {before text after more last : List ℕ} {at end past : ℕ} → Wrote before at text after end → Wrote after end more last past
@@ -38,22 +20,6 @@ wrote_then {before} {text} {after} {more} {last} {at} {end} {past} v w =
       room = w.room ∙ v.room;
       within = w.within;
     }
-
--- ---- the turns of a copy
-
--- before the first one
-pub wrote-start : (before : List ℕ) (at : ℕ) → at ≤ length before → Wrote before at [] before (at + 0)
-wrote-start before at h = rw add-zero (wrote_none before at h)
-
--- the byte at i behind those before it
-pub wrote-next : {before after : List ℕ} {at : ℕ} (i : ℕ) (text : List ℕ) → Wrote before at (take i text) after (at + i) → at + i < length after → i < length text
-    → Wrote before at (take (i + 1) text) (set after (at + i) (get_or text i 0)) (at + (i + 1))
-wrote-next {before} {after} {at} i text w h g = rw (add-one i, take-suc text i 0 g, add-suc, ← add-one (at + i)) (wrote-byte (get_or text i 0) w h)
-
--- after the last one
-pub wrote-all : {before after : List ℕ} {at : ℕ} (i : ℕ) (text : List ℕ) → i ≡ length text → Wrote before at (take i text) after (at + i)
-    → Wrote before at text after (at + length text)
-wrote-all {before} {after} {at} i text e w = subst (λ (t : List ℕ). Wrote before at t after (at + length text)) (take-length text) (rw e at w)
 
 -- the text by another name, and its length
 pub wrote-number : {before text after same : List ℕ} {at k : ℕ} → Wrote before at text after (at + length text) → length text ≡ k → text ≡ same
@@ -72,8 +38,3 @@ wrote-line answers k v w = rw (add-one k) (wrote_then v w)
 pub wrote-no-line : (before answers : List ℕ) → Wrote before 0 (lines_text answers 0) before 0
 unfolding lines_text
 wrote-no-line before answers = wrote_none before 0 (omega arith)
-
--- `bad` or nothing behind them
-pub wrote-chunk : {before after : List ℕ} {end : ℕ} (answers : List ℕ) (k : ℕ) {whole b : Bool} → whole ≡ b → Wrote before 0 (lines_text answers k ++ cond b [] bad_text) after end
-    → Wrote before 0 (chunk_text answers k whole) after end
-wrote-chunk answers k e w = rw e w

@@ -1,0 +1,12 @@
+-- A line more stands behind those before it.
+use Rattle.std.proofs.Common.{arith}
+use Rattle.editor.proofs.Writing.{wrote-no-line, wrote-line}
+use Rattle.editor.proofs.text.lines.Goals as goal
+
+pub loop-k-init : goal.loop-k-init
+loop-k-init c = (omega arith, omega arith, wrote-no-line c.args.out.now c.args.answers.now)
+
+pub loop-k-preserved : goal.loop-k-preserved
+loop-k-preserved c =
+    let w = c.line-at.ensures in
+    (omega arith, omega (arith, w.upper_bound), wrote-line c.args.answers.now c.loop-k.k c.loop-k.invariant.2 w.wrote)
