@@ -1,18 +1,23 @@
 -- Laws of rows: which number a table gives, and what a refusal leaves. Assumes nothing.
 use Prim.Native.Nat.{ℕ, zero, suc}
 use mathlib.Core.Path.{◌≡◌, refl, sym, ap, ◌∙◌}
-use mathlib.Core.Logic.{◌≢◌}
+use mathlib.Core.Logic.{◌≢◌, ◌↔◌}
 use mathlib.Core.Bool.{Bool, true, false, not, ◌&&◌, cond, true≢false}
 use mathlib.Core.List.{List, [], ◌∷◌}
 use lib.Dec.{eqb}
 use lib.ListN.{get_or}
-use borrow.Author.Tests.{eqb-true, eq-eqb, ne_eqb}
+use borrow.Author.Tests.{eqb-true, eqb-false, eq-eqb, ne_eqb}
 use Rattle.answers.specs.Rows.{all, Row, row, first, Outcome, refused, unless}
 
 -- a test whose truth is absurd is false
 pub refuted : (b : Bool) → (b ≡ true → ⊥) → b ≡ false
 refuted true h = absurd (h refl)
 refuted false h = refl
+
+-- the opposite of a test that tells a fact tells that it does not hold
+pub denies : (b : Bool) {P : Type 0} → (b ≡ true ↔ P) → (not b ≡ true) ↔ (P → ⊥)
+denies true f = (λ e p. true≢false (sym e), λ n. absurd (n (f.0 refl)))
+denies false f = (λ e p. true≢false (sym (f.1 p)), λ n. refl)
 
 pub and_left : (a b : Bool) → a && b ≡ true → a ≡ true
 and_left true b e = refl
@@ -28,6 +33,10 @@ unfolding all
 all-at [] i e = refl
 all-at (b ∷ l) zero e = and_left b (all l) e
 all-at (b ∷ l) (suc i) e = all-at l i (and_right b (all l) e)
+
+-- two tests by the outcome of the first
+pub and-by : {a v : Bool} (b : Bool) → a ≡ v → v && b ≡ a && b
+and-by b e = simp e
 
 -- two tests that give each other are one
 pub agrees : (p q : Bool) → (p ≡ true → q ≡ true) → (q ≡ true → p ≡ true) → p ≡ q
@@ -95,3 +104,26 @@ module _ {C : Type 0} (c : C) (act : Outcome C) where
       go : (b : Bool) → eqb k 0 ≡ b → P (cond b act (refused k c)).after
       go true e = q (eqb-true k 0 e)
       go false e = p
+
+-- ---- refusals one after another
+
+-- no row's number is 0
+abbrev pub numbered : List Row → Bool
+numbered [] = true
+numbered (r ∷ rows) = not (eqb r.number 0) && numbered rows
+
+module _ {C : Type 0} (c : C) (act : Outcome C) where
+  -- a table's rows tried in order, and the act where none applies
+  abbrev pub tried : List Row → Outcome C
+  tried [] = act
+  tried (r ∷ rows) = cond r.applies (refused r.number c) (tried rows)
+
+  -- that is what a call does which the table may refuse
+  pub tried-is : (rows : List Row) → numbered rows ≡ true → tried rows ≡ unless (first rows) c act
+  unfolding first
+  tried-is [] e = refl
+  tried-is (r ∷ rows) e = go r.applies (tried-is rows (and_right (not (eqb r.number 0)) (numbered rows) e))
+    where
+      go : (b : Bool) → tried rows ≡ unless (first rows) c act → cond b (refused r.number c) (tried rows) ≡ unless (cond b r.number (first rows)) c act
+      go true ih = sym (unless-refused c act r.number (eqb-false _ _ (by-not refl (and_left _ (numbered rows) e))))
+      go false ih = ih

@@ -4,3 +4,4 @@ pub mod Equal
 pub mod Ones
 pub mod Trailing
 pub mod Ranges
+pub mod Tells

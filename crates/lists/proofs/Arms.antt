@@ -1,16 +1,15 @@
 -- What each function gives by its tests' outcomes, and what its steps come to: the laws that every return cites.
 -- A test that is not reached is cited by `refl`. Assumes nothing.
 use Prim.Native.Nat.{ℕ, suc, ◌/◌, ◌≤◌}
-use mathlib.Core.Path.{◌≡◌, refl, sym, ◌∙◌}
+use mathlib.Core.Path.{◌≡◌, refl, ◌∙◌}
 use mathlib.Core.Bool.{Bool, true, false, not, ◌&&◌, cond}
 use mathlib.Core.List.{List, [], ◌∷◌}
 use native.Mathlib.Omega.{arith}
 use lib.Dec.{leb, eqb}
 use lib.ListN.{set}
-use borrow.Author.Tests.{eqb-false}
 use Rattle.answers.specs.Numbers.{done, bad_page, no_such, listed, none_left, damaged}
-use Rattle.answers.specs.Rows.{Row, row, first, Outcome, outcome, refused, unless}
-use Rattle.answers.proofs.Rows.{by, by-not, and_left, and_right, unless-refused}
+use Rattle.answers.specs.Rows.{row, outcome}
+use Rattle.answers.proofs.Rows.{by, tried, tried-is}
 use Rattle.bitmap.specs.Bitmap.{bit_put, any_set, put_run, run_length}
 use Rattle.page.specs.declared.Walked.{Walked}
 use Rattle.page.specs.Limits.{max_blocks, max_width}
@@ -23,29 +22,6 @@ use Rattle.lists.specs.declared.Heads.{Heads}
 use Rattle.lists.specs.Lists.{Lists, came}
 use Rattle.lists.specs.Own.{with, insert_act, insert_refusal, insert_of, pop_act, pop_refusal, pop_of, got_walk, append_act, append_refusal, append_of, extend_act, extend_refusal, extend_of, own_walk, clear_all, blocks_from, release_act, release_refusal, release_of, empty_act, empty_refusal, empty_of}
 use Rattle.lists.proofs.Walks.{walk-blocks, walk-last}
-
--- ---- refusals one after another
-
--- no row's number is 0
-abbrev pub numbered : List Row → Bool
-numbered [] = true
-numbered (r ∷ rows) = not (eqb r.number done) && numbered rows
-
-module _ {C : Type 0} (c : C) (act : Outcome C) where
-  -- a table's rows tried in order, and the act where none applies
-  abbrev pub tried : List Row → Outcome C
-  tried [] = act
-  tried (r ∷ rows) = cond r.applies (refused r.number c) (tried rows)
-
-  -- that is what a call does which the table may refuse
-  pub tried-is : (rows : List Row) → numbered rows ≡ true → tried rows ≡ unless (first rows) c act
-  unfolding first
-  tried-is [] e = refl
-  tried-is (r ∷ rows) e = go r.applies (tried-is rows (and_right (not (eqb r.number done)) (numbered rows) e))
-    where
-      go : (b : Bool) → tried rows ≡ unless (first rows) c act → cond b (refused r.number c) (tried rows) ≡ unless (cond b r.number (first rows)) c act
-      go true ih = sym (unless-refused c act r.number (eqb-false _ _ (by-not refl (and_left _ (numbered rows) e))))
-      go false ih = ih
 
 -- what came, by the heads given back
 pub came-by : {n bw : ℕ} {r s : Heads} {page bits : List ℕ} → r ≡ s → came n bw r page bits ≡ came n bw s page bits

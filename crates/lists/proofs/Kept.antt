@@ -23,6 +23,7 @@ use Rattle.page.proofs.Chains.{laid-length, laid-other}
 use Rattle.page.proofs.Running.{run-walk}
 use Rattle.page.proofs.Keeping.{keeps-refl, keeps-lent}
 use Rattle.lists.specs.Lists.{Lists}
+use Rattle.lists.specs.Keep.{CallsKeep}
 use Rattle.lists.proofs.Walks.{clear-length}
 use Rattle.lists.specs.Own.{clear_all, insert_refusal, insert_act, insert_of, pop_refusal, pop_act, pop_of, append_refusal, append_act, append_of, extend_refusal, extend_act, extend_of, release_refusal, release_act, release_of, empty_refusal, empty_act, empty_of, got_walk, own_walk}
 
@@ -165,3 +166,14 @@ module _ (c : Lists) where
   pub empty-keeps : Keeps c.lent (empty_of c).after.lent
   unfolding empty_of empty_act
   empty-keeps = unless-either c (empty_act c) (λ d. Keeps c.lent d.lent) (empty_refusal c) (keeps-refl c.lent) (λ e. keeps-refl c.lent)
+
+pub calls-keep : CallsKeep
+calls-keep c =
+    record {
+      insert = insert-keeps c;
+      pop = pop-keeps c;
+      append = append-keeps c;
+      extend = extend-keeps c;
+      release = release-keeps c;
+      empty = empty-keeps c;
+    }

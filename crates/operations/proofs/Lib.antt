@@ -1,2 +1,4 @@
+pub mod Tells
 pub mod PairArms
 pub mod Agree
+pub mod Numbered

@@ -4,3 +4,5 @@ pub mod Counting
 pub mod Chains
 pub mod Running
 pub mod Keeping
+pub mod Facts
+pub mod Heads

@@ -3,3 +3,5 @@ pub mod Page
 pub mod Walk
 pub mod Sequences
 pub mod Keeps
+pub mod Facts
+pub mod Heads

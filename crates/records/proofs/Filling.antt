@@ -1,5 +1,5 @@
--- What a fill leaves: the bytes it used, each event's five words in their place, the words past them, and why it stopped.
--- Assumes nothing.
+-- What a fill leaves, turn by turn: the statement of `Filled`, and that a fill which ends on a record's end used
+-- every byte. Assumes nothing.
 use Prim.Native.Nat.{ℕ, zero, suc, ◌+◌, ◌-◌, ◌*◌, ◌/◌, ◌≤◌, ◌<◌}
 use mathlib.Core.Path.{◌≡◌, refl, sym, ap, ◌∙◌, subst}
 use mathlib.Core.Logic.{◌≢◌}
@@ -16,37 +16,8 @@ use Rattle.records.specs.declared.Decoded.{Decoded}
 use Rattle.records.specs.declared.Decoded.TheVariants.{Event as event, End, Cut, Unknown}
 use Rattle.records.specs.Records.{event_at, decode_at}
 use Rattle.records.specs.Fill.{ended, cut, unknown, no_room, going, Filling, filling, put_event, put_next, next, fill_in, fill_of}
+use Rattle.records.specs.Filled.{EventStands, why_of, FillHolds, Stopped, FillTells}
 use Rattle.records.proofs.Decoding.{event-whole, end-past}
-
--- an event's five words from a place on
-pub record Stands (words : List ℕ) (to : ℕ) (e : Event) : Type 0 where
-  pub kind : get_or words to 0 ≡ e.kind
-  pub worker : get_or words (to + 1) 0 ≡ e.worker
-  pub code : get_or words (to + 2) 0 ≡ e.code
-  pub a : get_or words (to + 3) 0 ≡ e.a
-  pub b : get_or words (to + 4) 0 ≡ e.b
-
--- why no more, by what stands behind the records used
-abbrev pub why_of : Decoded → ℕ
-why_of End = ended
-why_of Cut = cut
-why_of Unknown = unknown
-why_of (event e) = no_room
-
-module _ (bytes words : List ℕ) where
-  -- so many records are used, and their events stand in the words
-  pub record Holds (f : Filling) : Type 0 where
-    pub used : 8 * f.records ≤ length bytes
-    pub room : 5 * f.records ≤ length words
-    pub size : length f.words ≡ length words
-    pub found : (i : ℕ) → i < f.records → decode_at bytes (8 * i) ≡ event (event_at bytes (8 * i))
-    pub stands : (i : ℕ) → i < f.records → Stands f.words (5 * i) (event_at bytes (8 * i))
-    pub past : (j : ℕ) → 5 * f.records ≤ j → get_or f.words j 0 ≡ get_or words j 0
-
-  -- why it stopped; 3 only where five more words have no room
-  pub record Stopped (f : Filling) : Type 0 where
-    pub why : f.stop ≡ why_of (decode_at bytes (8 * f.records))
-    pub full : f.stop ≡ no_room → length words < 5 * f.records + 5
 
 -- ---- the five stores
 
@@ -87,7 +58,7 @@ module _ (words : List ℕ) (to : ℕ) (e : Event) where
   unfolding w1
   put_other j h g f d b = past-0 j h g f d ∙ get_or-set_other words to j e.kind 0 b
 
-  put-stands : to + 5 ≤ length words → Stands (put_event words to e) to e
+  put-stands : to + 5 ≤ length words → EventStands (put_event words to e) to e
   unfolding w1 w2 w3 w4
   put-stands h =
       let l1 : length w1 ≡ length words = simp length-set in
@@ -103,7 +74,7 @@ module _ (words : List ℕ) (to : ℕ) (e : Event) where
       }
 
 -- an event stands yet where another is put behind it
-stands-behind : (words : List ℕ) (i to : ℕ) (e d : Event) → i + 5 ≤ to → Stands words i e → Stands (put_event words to d) i e
+stands-behind : (words : List ℕ) (i to : ℕ) (e d : Event) → i + 5 ≤ to → EventStands words i e → EventStands (put_event words to d) i e
 stands-behind words i to e d h s =
     record {
       kind = below i (omega arith) ∙ s.kind;
@@ -120,13 +91,13 @@ stands-behind words i to e d h s =
 
 module _ (bytes words : List ℕ) where
   record After (t : ℕ) (f : Filling) : Type 0 where
-    holds : Holds bytes words f
+    holds : FillHolds bytes words f
     all-used : f.stop ≡ going → f.records ≡ t
     stopped : f.stop ≢ going → Stopped bytes words f
 
   -- one record more
-  more : (k : ℕ) (w : List ℕ) (s : ℕ) → Holds bytes words (filling k s w) → 8 * k + 8 ≤ length bytes → 5 * k + 5 ≤ length words
-      → decode_at bytes (8 * k) ≡ event (event_at bytes (8 * k)) → Holds bytes words (filling (k + 1) going (put_event w (5 * k) (event_at bytes (8 * k))))
+  more : (k : ℕ) (w : List ℕ) (s : ℕ) → FillHolds bytes words (filling k s w) → 8 * k + 8 ≤ length bytes → 5 * k + 5 ≤ length words
+      → decode_at bytes (8 * k) ≡ event (event_at bytes (8 * k)) → FillHolds bytes words (filling (k + 1) going (put_event w (5 * k) (event_at bytes (8 * k))))
   more k w s h u r d =
       let e = event_at bytes (8 * k) in
       record {
@@ -144,11 +115,11 @@ module _ (bytes words : List ℕ) where
           let z : i ≡ k = omega arith in
           subst (λ (x : ℕ). decode_at bytes (8 * x) ≡ event (event_at bytes (8 * x))) (sym z) d
 
-      stands : (i : ℕ) → i < k + 1 → Dec (i < k) → Stands (put_event w (5 * k) (event_at bytes (8 * k))) (5 * i) (event_at bytes (8 * i))
+      stands : (i : ℕ) → i < k + 1 → Dec (i < k) → EventStands (put_event w (5 * k) (event_at bytes (8 * k))) (5 * i) (event_at bytes (8 * i))
       stands i l (yes b) = stands-behind w (5 * i) (5 * k) (event_at bytes (8 * i)) (event_at bytes (8 * k)) (omega arith) (h.stands i b)
       stands i l (no b) =
           let z : i ≡ k = omega arith in
-          subst (λ (x : ℕ). Stands (put_event w (5 * k) (event_at bytes (8 * k))) (5 * x) (event_at bytes (8 * x))) (sym z)
+          subst (λ (x : ℕ). EventStands (put_event w (5 * k) (event_at bytes (8 * k))) (5 * x) (event_at bytes (8 * x))) (sym z)
           (put-stands w (5 * k) (event_at bytes (8 * k)) (omega (arith, h.size)))
 
   -- a stop leaves what held
@@ -176,7 +147,7 @@ module _ (bytes words : List ℕ) where
           let w = event-whole bytes (8 * f.records) e in
           record {
             holds =
-                subst (λ (x : Event). Holds bytes words (filling (f.records + 1) going (put_event f.words (5 * f.records) x))) (sym w.1)
+                subst (λ (x : Event). FillHolds bytes words (filling (f.records + 1) going (put_event f.words (5 * f.records) x))) (sym w.1)
                 (more f.records f.words f.stop h.holds w.0 (omega (arith, ltb-false, h.holds.size)) (e ∙ ap event w.1));
             all-used = λ _. omega (arith, h.all-used g);
             stopped = λ z. absurd (z refl);
@@ -208,8 +179,8 @@ module _ (bytes words : List ℕ) where
       }
   after (suc t) = turn t (fill_in bytes t words) (after t) (eqb (fill_in bytes t words).stop going) refl
 
-  pub holds_at : (t : ℕ) {f : Filling} → fill_in bytes t words ≡ f → Holds bytes words f
-  holds_at t e = subst (Holds bytes words) e (after t).holds
+  pub holds_at : (t : ℕ) {f : Filling} → fill_in bytes t words ≡ f → FillHolds bytes words f
+  holds_at t e = subst (FillHolds bytes words) e (after t).holds
 
   -- ---- the whole
 
@@ -219,7 +190,7 @@ module _ (bytes words : List ℕ) where
       let a = after (length bytes / 8 + 1) in
       omega (arith, a.all-used z, a.holds.used)
 
-  pub fill_holds : Holds bytes words (fill_of bytes words)
+  pub fill_holds : FillHolds bytes words (fill_of bytes words)
   fill_holds = (after (length bytes / 8 + 1)).holds
 
   pub fill-why : Stopped bytes words (fill_of bytes words)
@@ -237,3 +208,6 @@ module _ (bytes words : List ℕ) where
       why-end Cut e = absurd (omega arith)
       why-end Unknown e = absurd (omega arith)
       why-end (event v) e = absurd (omega arith)
+
+pub fill-tells : FillTells
+fill-tells bytes words = (fill_holds bytes words, fill-why bytes words)

@@ -3,3 +3,4 @@ pub mod Turns
 pub mod Filling
 pub mod Carried
 pub mod Example
+pub mod Marks

@@ -1,2 +1,4 @@
 pub mod Records
 pub mod Fill
+pub mod Marks
+pub mod Filled

@@ -1,3 +1,4 @@
 pub mod Tagged
 pub mod Digits
 pub mod Masks
+pub mod Agree

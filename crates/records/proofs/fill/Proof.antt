@@ -7,7 +7,7 @@ use native.Mathlib.Omega.{arith}
 use lib.ListN.{length}
 use Rattle.records.specs.Fill.{going, filling, fill_in}
 use Rattle.records.proofs.Turns.{turn_on, turn-out}
-use Rattle.records.proofs.Filling.{Holds, holds_at}
+use Rattle.records.proofs.Filling.{holds_at}
 use Rattle.records.proofs.fill.Statement.{statement}
 use Rattle.records.proofs.fill.Tie as tie
 
@@ -28,7 +28,7 @@ came-bytes l = l.args.bytes.now
 abbrev came-events : tie.At-loop-records invariant-loop decreases-loop → List ℕ
 came-events l = l.args.events.now
 
-held : (l : tie.At-loop-records invariant-loop decreases-loop) → Holds (came-bytes l) (came-events l) (filling l.loop-records.records going l.loop-records.events)
+held : (l : tie.At-loop-records invariant-loop decreases-loop) → FillHolds (came-bytes l) (came-events l) (filling l.loop-records.records going l.loop-records.events)
 held l = holds_at (came-bytes l) (came-events l) l.loop-records.records l.loop-records.invariant
 
 fill-one-requires : tie.Need-fill_one-stop-requires invariant-loop decreases-loop
