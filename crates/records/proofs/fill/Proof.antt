@@ -7,6 +7,7 @@ use native.Mathlib.Omega.{arith}
 use lib.ListN.{length}
 use Rattle.records.specs.Fill.{going, filling, fill_in}
 use Rattle.records.proofs.Turns.{turn_on, turn-out}
+use Rattle.records.specs.Filled.{FillHolds}
 use Rattle.records.proofs.Filling.{holds_at}
 use Rattle.records.proofs.fill.Statement.{statement}
 use Rattle.records.proofs.fill.Tie as tie
