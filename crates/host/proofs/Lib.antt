@@ -2,3 +2,4 @@ pub mod Elements
 pub mod Spelled
 pub mod OneEvent
 pub mod CallArms
+pub mod Worded

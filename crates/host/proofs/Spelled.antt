@@ -22,7 +22,7 @@ joined-append : (ks : List Worker) (k : Worker) → joined (ks ++ (k ∷ [])) �
 joined-append [] k = refl
 joined-append (x ∷ ks) k = ap (λ (l : List ℕ). worker_words x ++ l) (joined-append ks k)
 
-length-joined : (ks : List Worker) → length (joined ks) ≡ length ks * 8
+pub length-joined : (ks : List Worker) → length (joined ks) ≡ length ks * 8
 length-joined [] = refl
 length-joined (k ∷ ks) = let e = length-joined ks in omega arith
 

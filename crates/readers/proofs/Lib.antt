@@ -1,1 +1,2 @@
 pub mod ReaderArms
+pub mod Tell

@@ -14,12 +14,11 @@ use borrow.Author.Tests.{eq-eqb, ne_eqb, eqb-true, not-false}
 use Rattle.answers.specs.Numbers.{done, bad_page, no_such, listed, none_left}
 use Rattle.answers.specs.Rows.{Row, row, first, Outcome, outcome, answer}
 use Rattle.answers.specs.declared.Answer.{Answer}
-use Rattle.answers.proofs.Rows.{and_left, first-none}
+use Rattle.answers.proofs.Rows.{and_left, first-none, numbered, tried, tried-is}
 use Rattle.bitmap.specs.Bitmap.{listed_count, first_unlisted}
 use Rattle.page.specs.Limits.{max_blocks, max_width}
 use Rattle.page.specs.Page.{Lent, keeps_rules_b, workers_b, block_b, listed_b, place}
 use Rattle.page.proofs.Rules.{rules-facts, block-facts}
-use Rattle.lists.proofs.Arms.{numbered, tried, tried-is}
 use Rattle.machine.specs.Readers.{reads_b, answer_unless, listed_count_of, first_unlisted_of, entry_refusal, entry_of, entry_answer_of, equal_leading, compare_refusal, compare_of}
 
 -- ---- a number, or a value

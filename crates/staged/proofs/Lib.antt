@@ -4,3 +4,6 @@ pub mod StageArms
 pub mod MoveArms
 pub mod Sequences
 pub mod Examples
+pub mod Damaged
+pub mod Readings
+pub mod Refused
