@@ -12,3 +12,5 @@ pub mod Unchanged
 pub mod Leaving
 pub mod Examples
 pub mod RunsKeep
+pub mod Facts
+pub mod Reasons

@@ -75,7 +75,7 @@ module _ (c : Config) (k : ℕ) (act : Outcome Config) where
 
 -- ---- what the acts answer
 
-at-once-done : (l : Lists) (code a b : ℕ) → (at_once_act l code a b).number ≡ done
+pub at-once-done : (l : Lists) (code a b : ℕ) → (at_once_act l code a b).number ≡ done
 unfolding at_once_act insert_act pop_act append_act extend_act release_act empty_act
 at-once-done l code a b = go (eqb code insert) refl (eqb code pop) refl (eqb code append) refl (eqb code extend) refl (eqb code release) refl (eqb l.got 0) refl
   where
@@ -89,7 +89,7 @@ at-once-done l code a b = go (eqb code insert) refl (eqb code pop) refl (eqb cod
     go false e1 false e2 false e3 false e4 true e5 b6 e6 = rw (e1, e2, e3, e4, e5)
     go false e1 false e2 false e3 false e4 false e5 b6 e6 = rw (e1, e2, e3, e4, e5)
 
-request-act-small : (c : Config) (w code a b : ℕ) → (request_act c w code a b).number ≤ under_way
+pub request-act-small : (c : Config) (w code a b : ℕ) → (request_act c w code a b).number ≤ under_way
 unfolding request_act start_act
 request-act-small c w code a b = go (staged_b code) refl
   where
@@ -101,7 +101,7 @@ request-act-small c w code a b = go (staged_b code) refl
 pick_small : {C : Type 0} (b : Bool) (x y : Outcome C) → x.number ≤ under_way → y.number ≤ under_way → (cond b x y).number ≤ under_way
 pick_small {C} = pick (λ (o : Outcome C). o.number ≤ under_way)
 
-move-act-small : (t : Turn) (flag : Bool) → (move_act t flag).number ≤ under_way
+pub move-act-small : (t : Turn) (flag : Bool) → (move_act t flag).number ≤ under_way
 unfolding move_act load_act load_ask load_await write_act exchange_act swap_act mask_act
 move-act-small t flag =
     pick_small (eqb t.worker.stage loading) (load_act t) _

@@ -9,3 +9,5 @@ pub mod Events
 pub mod Total
 pub mod Leaves
 pub mod Starting
+pub mod Facts
+pub mod Reasons
