@@ -1,5 +1,5 @@
 #!/usr/bin/env python3
-"""Respells the names of this repository's definitions and lemmas in snake case, after /opt/rattle/port/port.py ran.
+"""Respells the names of this repository's definitions and lemmas in snake case, after the port.py of the Rattle kit ran.
 
 usage: python3 tools/respell.py [ROOT]      (the folder of the repository, unless given the one in which this script stands)
 

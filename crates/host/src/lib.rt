@@ -1,4 +1,4 @@
-// The machine for a host program in C or Rust: exported functions on numbers and lent words. The state is 70 words, an answer
+// The machine for a host program in C or Rust: functions on numbers and lent words. The state is 70 words, an answer
 // is number and value. No function has a requires, and a refusal changes no word but those of a fresh start's state.
 #![tactic(auto)]
 

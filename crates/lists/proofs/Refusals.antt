@@ -21,7 +21,7 @@ use Rattle.page.specs.Heads.{SoundHead}
 use Rattle.page.specs.Sequences.{Runs}
 use Rattle.page.proofs.Rules.{rules-facts}
 use Rattle.page.proofs.Facts.{rules-are, blocks-are, runs-of-blocks-are}
-use Rattle.page.proofs.Heads.{sound-is, walk_ends}
+use Rattle.page.proofs.Heads.{sound-is, walk-ends}
 use Rattle.page.proofs.Running.{run-walk}
 use Rattle.lists.specs.Lists.{Lists}
 use Rattle.lists.specs.Own.{breaks_rules, own_unsound, insert_refusal, insert_act, insert_of, pop_refusal, pop_act, pop_of, got_walk, append_refusal, append_act, append_of, extend_refusal, extend_act, extend_of, own_walk, release_refusal, release_act, release_of, empty_refusal, empty_act, empty_of}
@@ -48,7 +48,7 @@ module _ (c : Lists) where
   walk-fails h f = ap not (refuted _ (λ e. f _ (run-walk c.lent c.lent.n h e)))
 
   fails-walk : (h : ℕ) → Rules c.lent → not (walk_of c.lent h).ends ≡ true → (xs : List ℕ) → Runs c.lent h xs → ⊥
-  fails-walk h r e xs x = (denies _ (walk_ends c.lent h r).ends).0 e (xs, x)
+  fails-walk h r e xs x = (denies _ (walk-ends c.lent h r).ends).0 e (xs, x)
 
 -- ---- insert
 

@@ -15,7 +15,7 @@ use Rattle.page.specs.Heads.{SoundHead}
 use Rattle.page.specs.Sequences.{Runs}
 use Rattle.page.proofs.Rules.{rules-facts, rules-test, workers-facts, workers-test, block-facts, block-test, run-facts, run-test}
 use Rattle.page.proofs.Running.{run_sound}
-use Rattle.page.proofs.Heads.{sound-is, walk_ends}
+use Rattle.page.proofs.Heads.{sound-is, walk-ends}
 use Rattle.operations.specs.declared.Worker.{Worker}
 use Rattle.operations.specs.Operations.{staged_b, pushes_b, busy_b}
 use Rattle.operations.proofs.Tells.{Tells, told-both, tells_both, tells-never, tells_as, tells-eq, tells_none, tells-and, tells-or}
@@ -179,7 +179,7 @@ module _ (c : Config) (w : ℕ) (r : RulesFact c) where
 
   tells-runless : (h : ℕ) → Tells (not (walk_of (lent_of c) h).ends) (Runless h)
   tells-runless h =
-      tells_as (tells_none (tells_both (walk_ends (lent_of c) h (lent-rules c r)).ends)) (λ f xs x. f (xs, x)) (λ f s. f s.0 s.1)
+      tells_as (tells_none (tells_both (walk-ends (lent_of c) h (lent-rules c r)).ends)) (λ f xs x. f (xs, x)) (λ f s. f s.0 s.1)
 
   abbrev own : ℕ
   own = (worker_of c w).own

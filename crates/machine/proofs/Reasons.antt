@@ -28,7 +28,7 @@ use Rattle.machine.specs.Moves.{move_of}
 use Rattle.machine.specs.Switch.{with_switch, switch_on_of, switch_off_of}
 use Rattle.machine.specs.Total.{request_rows, move_rows, on_rows, off_rows}
 use Rattle.machine.specs.Facts.{RulesFact}
-use Rattle.machine.specs.Reasons.{RequestApplies, request_rules, request_worker, request_unfit, request_busy, request_off, request_full, request_listed, request_empty, request_damaged, MoveApplies, move_rules, move_worker, move_idle, move_damaged, OnApplies, on_rules, on_twice, OffApplies, off_rules, off_busy, off_twice, off_listed, RequestNumbers, MoveNumbers, OnNumbers, OffNumbers}
+use Rattle.machine.specs.Reasons.{RequestApplies, request_rules, request_worker, request_unfit, request_busy, request_off, request_full, request_listed, request_empty, request_damaged, MoveApplies, move_rules, move_worker, move_idle, move_damaged, OnApplies, on_rules, on_twice, OffApplies, off_rules, off_busy, off_twice, off_listed, RequestNumbers, MovesNumbered, OnNumbers, OffNumbers}
 use Rattle.machine.proofs.AskArms.{below-staged, above-staged}
 use Rattle.machine.proofs.Facts.{tells-rules, tells-fits, tells-named, tells-damage, tells-busy, tells-any}
 use Rattle.machine.proofs.Totals.{at-once-done, request-act-small, move-act-small}
@@ -189,9 +189,9 @@ module _ (c : Config) (w : ℕ) where
 move-ascends : (c : Config) (w : ℕ) → Ascending (move_rows c w)
 move-ascends c w = omega arith
 
-pub move-numbers : MoveNumbers
+pub moves-numbered : MovesNumbered
 unfolding move_of move_refusal
-move-numbers c w flag =
+moves-numbered c w flag =
     numbered-by (MoveApplies c w) c act (move_refusal c w) small
     (given_by (Applies (move_rows c w)) (MoveApplies c w) (move_refusal c w) (λ k. (to-move c w k, from-move c w k)) (smallest-first (move_rows c w) (move-ascends c w)))
     (λ z. accepted z)

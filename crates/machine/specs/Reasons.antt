@@ -51,8 +51,8 @@ RequestNumbers =
     (c : Config) (w code a b : ℕ) → let k = (request_of c w code a b).number in
     Numbered (RequestApplies c w code a b) k ((6 ≤ code → code ≤ 12 → k ≡ 1) × ((code < 6) ⊎ (12 < code) → k ≡ 0))
 
-abbrev pub MoveNumbers : Type 0
-MoveNumbers = (c : Config) (w : ℕ) (flag : Bool) → let k = (move_of c w flag).number in Numbered (MoveApplies c w) k (k ≤ 1)
+abbrev pub MovesNumbered : Type 0
+MovesNumbered = (c : Config) (w : ℕ) (flag : Bool) → let k = (move_of c w flag).number in Numbered (MoveApplies c w) k (k ≤ 1)
 
 abbrev pub OnNumbers : Type 0
 OnNumbers = (c : Config) → let k = (switch_on_of c).number in Numbered (OnApplies c) k (k ≡ 0)

@@ -53,9 +53,9 @@ sound-is c h = (go (ℕ_discrete h 0), back)
         or-true true = refl
         or-true false = refl
 
-pub walk_ends : WalkEnds
+pub walk-ends : WalkEnds
 unfolding tally
-walk_ends c h r =
+walk-ends c h r =
     record {
       ends = ends;
       blocks = λ xs x. simp (walk_is c r h xs x);
