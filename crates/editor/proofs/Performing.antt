@@ -7,7 +7,8 @@ use lib.ListN.{length, take}
 use Rattle.answers.specs.Rows.{Outcome}
 use Rattle.records.specs.declared.Filled.{Filled}
 use Rattle.records.specs.Fill.{came, fill_of}
-use Rattle.records.proofs.Filling.{Holds, fill_holds}
+use Rattle.records.specs.Filled.{FillHolds}
+use Rattle.records.proofs.Filling.{fill_holds}
 use Rattle.machine.specs.declared.Reply.{Reply}
 use Rattle.machine.specs.Config.{Config, config}
 use Rattle.machine.specs.Events.{event_words, Run, ran, came_run, events_of}
@@ -17,8 +18,8 @@ pub kinds-agree : KindsAgree
 kinds-agree = (refl, refl, refl, refl)
 
 -- the records are within the bytes, and their words within the room
-pub filled-holds : (bytes events : List ℕ) {r : Filled} {words : List ℕ} → came r words ≡ fill_of bytes events → Holds bytes events (came r words)
-filled-holds bytes events e = subst (Holds bytes events) (sym e) (fill_holds bytes events)
+pub filled-holds : (bytes events : List ℕ) {r : Filled} {words : List ℕ} → came r words ≡ fill_of bytes events → FillHolds bytes events (came r words)
+filled-holds bytes events e = subst (FillHolds bytes events) (sym e) (fill_holds bytes events)
 
 pub filled-room : (bytes events : List ℕ) {r : Filled} {words : List ℕ} → came r words ≡ fill_of bytes events → event_words * r.records ≤ length words
 filled-room bytes events e = let h = filled-holds bytes events e in omega (arith, h.room, h.size)

@@ -9,7 +9,8 @@ use Rattle.answers.specs.Rows.{Outcome}
 use Rattle.records.specs.declared.Filled.{Filled}
 use Rattle.records.specs.Fill.{fill_of}
 use Rattle.records.specs.Fill as fill
-use Rattle.records.proofs.Filling.{Holds, fill_holds}
+use Rattle.records.specs.Filled.{FillHolds}
+use Rattle.records.proofs.Filling.{fill_holds}
 use Rattle.machine.specs.declared.Reply.{Reply}
 use Rattle.machine.specs.Config.{Config, came, fresh_of}
 use Rattle.machine.specs.Events.{event_words, Run, ran, events_of}
@@ -18,7 +19,7 @@ use Rattle.table_check.specs.Runs.{from_fresh, run_of}
 -- the words of the records are within the room
 pub filled-room : (bytes events : List ℕ) {r : Filled} {words : List ℕ} → fill.came r words ≡ fill_of bytes events → event_words * r.records ≤ length words
 filled-room bytes events {r} {words} e =
-    let h : Holds bytes events (fill.came r words) = subst (Holds bytes events) (sym e) (fill_holds bytes events) in
+    let h : FillHolds bytes events (fill.came r words) = subst (FillHolds bytes events) (sym e) (fill_holds bytes events) in
     omega (arith, h.room, h.size)
 
 pub run_is : (bytes page bits answers : List ℕ) {r : Filled} {words : List ℕ} → fill.came r words ≡ fill_of bytes (replicate 160 0)
