@@ -19,21 +19,21 @@ pub enum Answer {
 #[derive(Clone, Copy, Debug, PartialEq, Eq, PartialOrd, Ord, Hash)]
 #[repr(u64)]
 pub enum Refusal {
-    /// n, bw, W or a slice length breaks the page rules.
+    /// The page rules do not hold: n, bw, W or the length of a slice.
     BadPage = 2,
     /// No such worker.
     NoWorker = 3,
-    /// No such operation; block not 1 to n; extend by 0 or past n; tag above 3.
+    /// No request has this number, or its block, run of blocks or tag is none.
     NoSuch = 4,
-    /// Request to a worker with an operation under way; switching T off while any worker has one.
+    /// The worker has an operation under way; for T switched off, any worker has.
     Busy = 5,
     /// Move of an idle worker.
     Idle = 6,
-    /// Operation on T while off; switching off while off; switching on while on.
+    /// T is off, and is asked for or switched off; or it is on already.
     Switched = 7,
-    /// Take while got is not empty; switching off while T's address part is not 0.
+    /// A take while got still holds blocks, or T switched off while it does.
     NotEmpty = 8,
-    /// A named block's bit is set (for extend, any of them).
+    /// A block that is named is listed already; of an extend, one at least.
     Listed = 9,
     /// Pop with own empty; no unlisted block; too little room for the answers of events.
     NoneLeft = 10,

@@ -51,7 +51,7 @@ pub fn under_way() -> Answer {
     Answer { number: 1, value: 0 }
 }
 
-/// "For all from 2 up the value is 0."
+/// A refusal has value 0.
 pub fn refused(number: u64) -> Answer {
     Answer { number, value: 0 }
 }
@@ -122,7 +122,7 @@ impl Reading {
         state
     }
 
-    /// Fresh start: bitmap zeroed, heads 0, T off, workers idle, page untouched. Refused with 2, all numbers are 0.
+    /// A fresh start: no bit set, no list, T off, nobody busy; the page is left alone. Refused, it is the state of zeros.
     pub fn fresh(&mut self, n: u64, bw: u64, w: u64) -> Answer {
         (self.s, self.t, self.on) = (0, 0, 0);
         self.workers = [Worker::default(); 8];
@@ -147,7 +147,7 @@ impl Reading {
         done(0)
     }
 
-    /// Switch off: value the tag, T becomes 0.
+    /// T goes off: its tag is told, and its word is 0.
     pub fn switch_off(&mut self) -> Answer {
         if !self.page_rules_hold() {
             return refused(2);
@@ -180,7 +180,7 @@ impl Reading {
             && self.bits.len() as u64 == (self.n + 64) / 64
     }
 
-    /// "Block i starts at word i·bw; its address is 8·bw·i."
+    /// Where a block begins, in words; eight times that is its address.
     fn address(&self, block: u64) -> u64 {
         8 * self.bw * block
     }
@@ -194,17 +194,17 @@ impl Reading {
         (1..=self.n).contains(&block)
     }
 
-    /// "A head is good if it is a multiple of 8·bw from 8·bw to 8·bw·n."
+    /// A good head is the address of one of the n blocks.
     fn good(&self, head: u64) -> bool {
         head.is_multiple_of(8 * self.bw) && head >= 8 * self.bw && head <= 8 * self.bw * self.n
     }
 
-    /// "It is sound if 0, or good with its block's bit set."
+    /// A sound head is 0 or the address of a listed block.
     fn sound(&self, head: u64) -> bool {
         head == 0 || (self.good(head) && self.listed(self.block_at(head)))
     }
 
-    /// "Block i is bit i mod 64 of word i/64."
+    /// The bit of a block: 64 to a word, the lowest first.
     fn listed(&self, block: u64) -> bool {
         (self.bits[(block / 64) as usize] >> (block % 64)) & 1 == 1
     }
@@ -226,7 +226,7 @@ impl Reading {
         self.page[(block * self.bw) as usize] = word;
     }
 
-    /// The blocks from a head to 0, in order; none if an unsound head or link or more than n blocks are met.
+    /// The blocks from a head to 0, in order; none where the walk meets what is not sound, or does not end with n blocks.
     fn walk(&self, head: u64) -> Option<Vec<u64>> {
         let mut met = Vec::new();
         let mut at = head;

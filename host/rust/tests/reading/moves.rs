@@ -4,7 +4,7 @@ use super::stage::{EXCHANGE, LOAD, MASK, SWAP, WRITE};
 use super::{address_part, done, refused, tag_part, under_way, Answer, Reading, Worker};
 
 impl Reading {
-    /// A move of a worker. "A move gets only 2, 3, 6 or 11." The flag matters at an exchange alone.
+    /// A move of a worker; 2, 3, 6 and 11 refuse it. The flag matters at an exchange alone.
     pub fn make_move(&mut self, worker: u64, flag: bool) -> Answer {
         if !self.page_rules_hold() {
             return refused(2);
@@ -50,8 +50,8 @@ impl Reading {
             || self.words_damaged(record)
     }
 
-    /// "At write or exchange, a seen word whose address part is neither 0 nor good; at load, swap or masking, a head
-    /// whose address part is not sound (in both, for S, a nonzero tag too)."
+    /// The word that a stage rests on: a write and an exchange on the word seen, which is 0 or leads to a block; the
+    /// others on the head, which is sound. A word of S has no tag.
     fn words_damaged(&self, record: &Worker) -> bool {
         let on_shared = matches!(record.operation, 6 | 7);
         let tested = if matches!(record.stage, WRITE | EXCHANGE) { record.seen } else { self.head(record.operation) };
@@ -75,7 +75,7 @@ impl Reading {
         }
     }
 
-    /// "A load that does not end its operation stores the word seen."
+    /// A load behind which the operation goes on keeps the word that it saw.
     fn load(&mut self, worker: usize) -> Answer {
         let Worker { operation, sightings, .. } = self.workers[worker];
         let word = self.head(operation);
@@ -114,7 +114,7 @@ impl Reading {
         under_way()
     }
 
-    /// "An exchange also fails if the head differs from the word seen. A failure changes only the stage."
+    /// An exchange fails by its flag, or where the head is not the word seen; then nothing but the stage changes.
     fn exchange(&mut self, worker: usize, flag: bool) -> Answer {
         let Worker { operation, tag, hand, seen, .. } = self.workers[worker];
         if flag || self.head(operation) != seen {
@@ -142,7 +142,7 @@ impl Reading {
         self.end(worker, value)
     }
 
-    /// Take S: "swap with 0. Got becomes what was there. Value: its front block's number, or 0."
+    /// A take of S swaps it with 0; what was there is in got, and its front block is the value.
     fn swap(&mut self, worker: usize) -> Answer {
         let taken = self.s;
         self.s = 0;

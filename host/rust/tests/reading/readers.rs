@@ -3,7 +3,7 @@
 use super::{done, refused, Answer, Reading};
 
 impl Reading {
-    /// "Listed count: set bits of 1 to n."
+    /// How many of the blocks are listed.
     pub fn listed_count(&self) -> Answer {
         if !self.page_rules_hold() {
             return refused(2);
@@ -11,7 +11,7 @@ impl Reading {
         done((1..=self.n).filter(|&block| self.listed(block)).count() as u64)
     }
 
-    /// "First unlisted: the smallest block with a clear bit, 10 exactly if there is none."
+    /// The smallest block that is not listed; 10 where all are.
     pub fn first_unlisted(&self) -> Answer {
         if !self.page_rules_hold() {
             return refused(2);
@@ -30,7 +30,7 @@ impl Reading {
         }
     }
 
-    /// "Entry comparison of blocks a and b answers the count of equal leading words (bw-1 if all)."
+    /// How many words of two entries agree before the first that differs.
     pub fn compare_entries(&self, a: u64, b: u64) -> Answer {
         if let Some(number) = self.entries_refused(&[a, b]) {
             return refused(number);

@@ -54,7 +54,7 @@ impl Reading {
         None
     }
 
-    /// Number 4: "no such operation; block not 1 to n; extend by 0 or past n; tag above 3".
+    /// Number 4: no request has this number, or its block, run of blocks or tag is none.
     fn arguments_fit(&self, code: u64, a: u64, b: u64) -> bool {
         match code {
             1 | 6 | 8 => self.is_block(a),
@@ -66,7 +66,7 @@ impl Reading {
         }
     }
 
-    /// Number 9: "a named block's bit is set (for extend, any of them)".
+    /// Number 9: a block that is named is listed already; of an extend, one at least.
     fn a_named_block_is_listed(&self, code: u64, a: u64, b: u64) -> bool {
         match code {
             1 | 6 | 8 => self.listed(a),
@@ -87,7 +87,7 @@ impl Reading {
         }
     }
 
-    /// 1. "Insert block a at the front of own. Value 0."
+    /// 1. Block a becomes own's front; value 0.
     fn insert(&mut self, worker: usize, a: u64) -> Answer {
         self.set_link(a, self.workers[worker].own);
         self.set_bit(a);
@@ -95,7 +95,7 @@ impl Reading {
         done(0)
     }
 
-    /// 2. "Pop own's front; clear its bit. Value: block number. No page word changes."
+    /// 2. Own's front leaves it, and is the value; its bit is cleared, and the page stays.
     fn pop(&mut self, worker: usize) -> Answer {
         let front = self.block_at(self.workers[worker].own);
         self.workers[worker].own = self.link(front);
@@ -103,7 +103,7 @@ impl Reading {
         done(front)
     }
 
-    /// 3. "Append: got before own, got becomes empty. Value: got's length."
+    /// 3. The taken list goes before own, and its length is the value; got is empty then.
     fn append(&mut self, worker: usize) -> Answer {
         let Worker { own, got, .. } = self.workers[worker];
         if got == 0 {
@@ -117,7 +117,7 @@ impl Reading {
         done(blocks.len() as u64)
     }
 
-    /// 4. "Extend: blocks a, a+1, .. a+b-1 before own in ascending order. Value b."
+    /// 4. The b blocks from a on go before own, ascending; the value is b.
     fn extend(&mut self, worker: usize, a: u64, b: u64) -> Answer {
         for block in (a..a + b).rev() {
             self.insert(worker, block);
@@ -125,7 +125,7 @@ impl Reading {
         done(b)
     }
 
-    /// 5. "Release: all own blocks' bits cleared, own empty. Value: its length."
+    /// 5. Every block of own is unlisted, and own is empty; the value is how many there were.
     fn release(&mut self, worker: usize) -> Answer {
         let blocks = self.walk(self.workers[worker].own).expect("damage was tested");
         for &block in &blocks {
@@ -135,7 +135,7 @@ impl Reading {
         done(blocks.len() as u64)
     }
 
-    /// Requests 6 to 12. "A start sets all record fields but own and got afresh, unused ones 0."
+    /// Requests 6 to 12: a start leaves own and got, and sets the other fields of the record.
     fn start(&mut self, worker: usize, code: u64, a: u64) -> Answer {
         let Worker { own, got, .. } = self.workers[worker];
         let mut record = Worker { own, got, operation: code, stage: stage::LOAD, ..Worker::default() };
