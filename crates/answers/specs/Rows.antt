@@ -1,11 +1,8 @@
 -- Refusals as rows of a table, the smallest first, and what comes of a call: a number, a value and what stands
 -- afterwards (document 01, Numbers given back).
-use Prim.Native.Nat.{ℕ}
-use mathlib.Core.Bool.{Bool, true, _&&_, cond}
-use mathlib.Core.List.{List, [], _∷_}
-use lib.Dec.{eqb}
-use Rattle·answers·specs.specs.Numbers.{done}
-use Rattle·answers·specs.specs.declared.Answer.{Answer}
+use Rattle.std.specs.Prelude.{ℕ, Bool, true, ◌&&◌, cond, List, [], ◌∷◌, eqb}
+use Rattle.answers.specs.Numbers.{done}
+use Rattle.answers.specs.declared.Answer.{Answer}
 
 -- every test of the list holds
 unfoldable pub all : List Bool → Bool
@@ -23,7 +20,7 @@ row number applies = record { number = number; applies = applies }
 -- the number of the first row that applies; 0 where none does
 unfoldable pub first : List Row → ℕ
 first [] = done
-first (r ∷ rows) = cond (r .applies) (r .number) (first rows)
+first (r ∷ rows) = cond r.applies r.number (first rows)
 
 -- what comes of a call: its answer, and what stands afterwards
 pub record Outcome (C : Type 0) : Type 0 where

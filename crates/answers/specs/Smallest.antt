@@ -1,18 +1,14 @@
 -- The twelve numbers by their numerals, and which of several is given: the smallest (document 01, Numbers given back).
 -- No proof stands in this file.
-use Prim.Native.Nat.{ℕ, _≤_}
-use mathlib.Core.Path.{_≡_}
-use mathlib.Core.Logic.{_≢_, _⊎_, _↔_}
-use mathlib.Core.Bool.{true}
-use mathlib.Core.List.{List, [], _∷_}
-use Rattle·answers·specs.specs.Numbers.{done, underWay, badPage, noWorker, noSuch, busy, idle, switched, notEmpty, listed, noneLeft, damaged}
-use Rattle·answers·specs.specs.Rows.{Row, first, Outcome}
+use Rattle.std.specs.Prelude.{ℕ, ◌≤◌, ◌≡◌, ◌≢◌, ◌⊎◌, ◌↔◌, true, List, [], ◌∷◌}
+use Rattle.answers.specs.Numbers.{done, under_way, bad_page, no_worker, no_such, busy, idle, switched, not_empty, listed, none_left, damaged}
+use Rattle.answers.specs.Rows.{Row, first, Outcome}
 
 -- Each name stands for its number in the table.
 abbrev pub NumbersAre : Type 0
 NumbersAre =
-    (done ≡ 0) × (underWay ≡ 1) × (badPage ≡ 2) × (noWorker ≡ 3) × (noSuch ≡ 4) × (busy ≡ 5) × (idle ≡ 6) × (switched ≡ 7) × (notEmpty ≡ 8)
-    × (listed ≡ 9) × (noneLeft ≡ 10) × (damaged ≡ 11)
+    (done ≡ 0) × (under_way ≡ 1) × (bad_page ≡ 2) × (no_worker ≡ 3) × (no_such ≡ 4) × (busy ≡ 5) × (idle ≡ 6) × (switched ≡ 7) × (not_empty ≡ 8)
+    × (listed ≡ 9) × (none_left ≡ 10) × (damaged ≡ 11)
 
 -- The number that is given where `Reason k` says that number k applies.
 pub record Given (Reason : ℕ → Type 0) (number : ℕ) : Type 0 where
@@ -28,18 +24,18 @@ pub record Given (Reason : ℕ → Type 0) (number : ℕ) : Type 0 where
 -- A call gives the smallest number with a reason, and 0 where there is none; any other than 0 has value 0 and changes
 -- nothing.
 pub record AnswersBy {C : Type 0} (Reason : ℕ → Type 0) (c : C) (o : Outcome C) : Type 0 where
-  pub given : Given Reason (o .number)
-  pub refused : o .number ≢ 0 → (o .value ≡ 0) × (o .after ≡ c)
+  pub given : Given Reason o.number
+  pub refused : o.number ≢ 0 → (o.value ≡ 0) × (o.after ≡ c)
 
 -- A row of the table with number k applies.
 abbrev pub Applies : List Row → ℕ → Type 0
 Applies [] k = ⊥
-Applies (r ∷ rows) k = ((k ≡ r .number) × (r .applies ≡ true)) ⊎ Applies rows k
+Applies (r ∷ rows) k = ((k ≡ r.number) × (r.applies ≡ true)) ⊎ Applies rows k
 
 -- The rows' numbers are at least the first number given, and none is below the one before it.
 abbrev pub UpFrom : ℕ → List Row → Type 0
 UpFrom low [] = Unit {0}
-UpFrom low (r ∷ rows) = (low ≤ r .number) × UpFrom (r .number) rows
+UpFrom low (r ∷ rows) = (low ≤ r.number) × UpFrom r.number rows
 
 abbrev pub Ascending : List Row → Type 0
 Ascending rows = UpFrom 2 rows

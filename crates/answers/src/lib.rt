@@ -1,5 +1,7 @@
 // What every function answers: document 01's number, and the value that goes with it.
+#![tactic(auto)]
 
+#[derive(Clone, Copy)]
 pub struct Answer {
     pub number: u64,
     pub value: u64,

@@ -1,29 +1,28 @@
 // The listed count: the ones of each word summed, bit 0 and the bits above n left out.
-ghost use mathlib.Core.Path.{_≡_};
-ghost use Prim.Native.Nat.{_+_, _%_, _^_, _<_};
-ghost use lib.Count.{ones};
-ghost use lib.ListN.{getD};
-ghost use Rattle·bitmap·specs.specs.Bitmap.{bitPut, listedCount};
+ghost use Rattle.std.specs.Prelude.{◌≡◌, ◌+◌, ◌%◌, ◌^◌, ◌<◌, get_or};
+ghost use Rattle.std.specs.Int.Count.{ones};
+ghost use Rattle.bitmap.specs.Bitmap.{bit_put, listed_count};
+
 use crate::word_at;
 
 // The ones of a word.
 fn ones_of(word: u64) -> u64
-    ensures { λ r. ⌜ r ≡ ones word ⌝ }
+    ensures { result ≡ ones word }
 {
     u64::count_ones(word) as u64
 }
 
 // The ones among bits 0 to k of a word.
 fn ones_to(word: u64, k: u64) -> u64
-    requires { ⌜ k < 64 ⌝ }
-    ensures { λ r. ⌜ r ≡ ones (word % 2 ^ (k + 1)) ⌝ }
+    requires { k < 64 }
+    ensures { result ≡ ones (word % 2 ^ (k + 1)) }
 {
     ones_of(word & (!0 >> (63 - k)))
 }
 
 // Word w, with bit 0 of the bitmap clear.
 fn without_zero(bits: &[u64], w: u64) -> u64
-    ensures { λ r. ⌜ r ≡ getD (bitPut (now (bits .entry)) 0 0) w 0 ⌝ }
+    ensures { result ≡ get_or (bit_put bits.now 0 0) w 0 }
 {
     if w == 0 {
         word_at(bits, 0) & !1
@@ -34,7 +33,7 @@ fn without_zero(bits: &[u64], w: u64) -> u64
 
 // How many of the bits 1 to n are set.
 pub fn listed_count(bits: &[u64], n: u64) -> u64
-    ensures { λ r. ⌜ r ≡ listedCount (now (bits .entry)) n ⌝ }
+    ensures { result ≡ listed_count bits.now n }
 {
     let last = n >> 6;
     let mut sum: u64 = 0;

@@ -1,20 +1,19 @@
 // The first unlisted block: full words are stepped over, then the trailing ones of a word counted.
-ghost use mathlib.Core.Path.{_≡_};
-ghost use mathlib.Core.Bool.{cond};
-ghost use lib.Dec.{leb};
-ghost use Rattle·bitmap·specs.specs.Bitmap.{firstUnlisted, withZero, FirstClear};
+ghost use Rattle.std.specs.Prelude.{◌≡◌, cond, leb};
+ghost use Rattle.bitmap.specs.Bitmap.{first_unlisted, with_zero, FirstClear};
+
 use crate::word_at;
 
 // The lowest clear bit of a word; 64 if there is none.
 fn first_clear(word: u64) -> u64
-    ensures { λ r. ⌜ FirstClear word r ⌝ }
+    ensures { FirstClear word result }
 {
     u64::trailing_zeros(!word) as u64
 }
 
 // Word w, with bit 0 of the bitmap set.
 fn with_zero(bits: &[u64], w: u64) -> u64
-    ensures { λ r. ⌜ r ≡ withZero (now (bits .entry)) w ⌝ }
+    ensures { result ≡ with_zero bits.now w }
 {
     if w == 0 {
         word_at(bits, 0) | 1
@@ -25,14 +24,14 @@ fn with_zero(bits: &[u64], w: u64) -> u64
 
 // i if it is at most n, else 0.
 fn within(i: u64, n: u64) -> u64
-    ensures { λ r. ⌜ r ≡ cond (leb i n) i 0 ⌝ }
+    ensures { result ≡ cond (leb i n) i 0 }
 {
     if i <= n { i } else { 0 }
 }
 
 // The smallest of 1 to n whose bit is clear; 0 if there is none. Past the slice's end every bit is clear.
 pub fn first_unlisted(bits: &[u64], n: u64) -> u64
-    ensures { λ r. ⌜ r ≡ firstUnlisted (now (bits .entry)) n ⌝ }
+    ensures { result ≡ first_unlisted bits.now n }
 {
     let last = n >> 6;
     let mut w: u64 = 0;

@@ -1,9 +1,9 @@
 // A bitmap in lent words: word i / 64 has the bit of block i, at i mod 64. No public function has a requires: a bit
 // past the slice's end is not set, and putting one changes nothing.
-ghost use mathlib.Core.Path.{_≡_};
-ghost use lib.Dec.{eqb};
-ghost use lib.ListN.{getD};
-ghost use Rattle·bitmap·specs.specs.Bitmap.{bitAt, bitPut};
+#![tactic(auto)]
+
+ghost use Rattle.std.specs.Prelude.{◌≡◌, eqb, get_or};
+ghost use Rattle.bitmap.specs.Bitmap.{bit_at, bit_put};
 
 pub mod count;
 pub mod first;
@@ -11,7 +11,7 @@ pub mod runs;
 
 // Word w; 0 past the slice's end.
 fn word_at(bits: &[u64], w: u64) -> u64
-    ensures { λ r. ⌜ r ≡ getD (now (bits .entry)) w 0 ⌝ }
+    ensures { result ≡ get_or bits.now w 0 }
 {
     let at = w as usize;
     if at < bits.len() { bits[at] } else { 0 }
@@ -19,14 +19,14 @@ fn word_at(bits: &[u64], w: u64) -> u64
 
 // Whether bit i is set.
 pub fn is_set(bits: &[u64], i: u64) -> bool
-    ensures { λ r. ⌜ r ≡ eqb (bitAt (now (bits .entry)) i) 1 ⌝ }
+    ensures { result ≡ eqb (bit_at bits.now i) 1 }
 {
     (word_at(bits, i >> 6) >> (i & 63)) & 1 == 1
 }
 
 // Sets bit i.
 pub fn set(bits: &mut [u64], i: u64)
-    ensures { λ r. ⌜ now (bits .exit) ≡ bitPut (now (bits .entry)) i 1 ⌝ }
+    ensures { bits.new ≡ bit_put bits.old i 1 }
 {
     let w = (i >> 6) as usize;
     if w < bits.len() {
@@ -36,7 +36,7 @@ pub fn set(bits: &mut [u64], i: u64)
 
 // Clears bit i.
 pub fn clear(bits: &mut [u64], i: u64)
-    ensures { λ r. ⌜ now (bits .exit) ≡ bitPut (now (bits .entry)) i 0 ⌝ }
+    ensures { bits.new ≡ bit_put bits.old i 0 }
 {
     let w = (i >> 6) as usize;
     if w < bits.len() {

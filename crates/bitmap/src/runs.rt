@@ -1,12 +1,12 @@
 // Runs of bits: the b bits from a on, as far as a number of 64 bits names them. Both stop at the slice's end.
-ghost use mathlib.Core.Path.{_≡_};
-ghost use Rattle·bitmap·specs.specs.Bitmap.{anySet, putRun, runLength};
-use crate::is_set;
-use crate::set;
+ghost use Rattle.std.specs.Prelude.{◌≡◌};
+ghost use Rattle.bitmap.specs.Bitmap.{any_set, put_run, run_length};
+
+use crate::{is_set, set};
 
 // How many of the b numbers from a on a number of 64 bits can name.
 fn reach(a: u64, b: u64) -> u64
-    ensures { λ r. ⌜ r ≡ runLength a b ⌝ }
+    ensures { result ≡ run_length a b }
 {
     let above = !0 - a;
     if b <= above { b } else { above + 1 }
@@ -14,7 +14,7 @@ fn reach(a: u64, b: u64) -> u64
 
 // Whether any bit of the run is set.
 pub fn any_set(bits: &[u64], a: u64, b: u64) -> bool
-    ensures { λ r. ⌜ r ≡ anySet (now (bits .entry)) a (runLength a b) ⌝ }
+    ensures { result ≡ any_set bits.now a (run_length a b) }
 {
     let m = reach(a, b);
     let mut seen: u64 = 0;
@@ -33,7 +33,7 @@ pub fn any_set(bits: &[u64], a: u64, b: u64) -> bool
 
 // Sets every bit of the run.
 pub fn set_run(bits: &mut [u64], a: u64, b: u64)
-    ensures { λ r. ⌜ now (bits .exit) ≡ putRun (now (bits .entry)) a (runLength a b) 1 ⌝ }
+    ensures { bits.new ≡ put_run bits.old a (run_length a b) 1 }
 {
     let m = reach(a, b);
     let mut done: u64 = 0;

@@ -1,81 +1,81 @@
 -- Wrong machines: each worthless version and slip, as a variant of a rule, and a run on which it does not meet demand
 -- 3. Assumes nothing.
-use Prim.Native.Nat.{ℕ, _+_}
-use mathlib.Core.Path.{_≡_, refl, sym, _∙_}
-use mathlib.Core.Bool.{Bool, true, false, _&&_, cond, true≢false}
-use mathlib.Core.List.{List, [], _∷_, _++_}
+use Prim.Native.Nat.{ℕ, ◌+◌}
+use mathlib.Core.Path.{◌≡◌, refl, sym, ◌∙◌}
+use mathlib.Core.Bool.{Bool, true, false, ◌&&◌, cond, true≢false}
+use mathlib.Core.List.{List, [], ◌∷◌, ◌++◌}
 use native.Mathlib.Omega.{arith}
 use lib.Dec.{eqb, leb}
 use lib.ListN.{length, set, replicate}
-use Rattle·answers.specs.Rows.{all, first, Outcome, outcome, refused, unless}
-use Rattle·words.specs.Digits.{digit, putDigit}
-use Rattle·words.specs.Tagged.{tagOf, addressOf}
-use Rattle·bitmap.specs.Bitmap.{bitAt, bitPut, anyFrom, putRun}
-use Rattle·page.specs.Page.{lent, fitsB, workersB, blockB, runB, goodB, soundB, place, blockOf}
-use Rattle·page.specs.Page as page
-use Rattle·page.specs.Walk.{walkFrom, walkOf, lastOf}
-use Rattle·page.specs.Sequences.{hit, upFrom}
-use Rattle·lists.specs.Lists.{Lists}
-use Rattle·lists.specs.Own.{with, insertAct, popAct, appendAct, extendAct, releaseAct, emptyAct}
-use Rattle·operations.specs.Operations.{pushShared, askTag, loading, writing, exchanging, swapping, stagedB, pushesB, takesB, onSharedB, onTaggedB, wordOf, offB, fullB, firstStage, stagesOf, oneOf, record8}
-use Rattle·staged.specs.Workers.{begun, atStage}
-use Rattle·staged.specs.Start.{startFitsB, startAct}
-use Rattle·staged.specs.Damage.{Turn, turn, headWord, handBad, tagOnShared, seenBad, headBad, sightingsBad, tagBad, any, damagedB}
-use Rattle·staged.specs.Moves.{goesOn, ends, endsWith, loadAsk, loadAwait, loadAct, writeAct, newWord, exchangeValue, failsB, exchangeAct, swapAct, maskAct, moveAct}
-use Rattle·machine.specs.Config.{Config, config, stateOf, listsOf, starterOf, turnOf, putLists, putStarter, putTurn, over, rulesB, freshState}
-use Rattle·machine.specs.Table.{pop, append, argumentsFitB, anyNamed, ownUnsound, linkUnsound, walkBroken, requestDamagedB, requestRows, requestRefusal, moveRows, moveRefusal, anyBusy, onRows, offRows}
-use Rattle·machine.specs.Requests.{atOnceAct, requestAct, requestOf}
-use Rattle·machine.specs.Moves.{moveOf}
-use Rattle·machine.specs.Switch.{switchOnOf, switchOffOf}
-use Rattle·demands·specs.specs.Simple.{start}
-use Rattle·demands·specs.specs.Simple as simple
-use Rattle·demands·specs.specs.Moments.{Event, request, move, on, off, store, Machine, step, simpleStep, endsAtLoad, actOf, moment}
-use Rattle·demands·specs.specs.Sightings.{sights}
-use Rattle·demands·specs.specs.Every.{Refines}
-use Rattle·demands·specs.specs.ByHand.{pushes, takes, sets}
-use Rattle·demands·proofs.proofs.Testing.{same, gives, keepsUp, kept, quiet, allQuiet, all-neither}
+use Rattle.answers.specs.Rows.{all, first, Outcome, outcome, refused, unless}
+use Rattle.words.specs.Digits.{digit, put_digit}
+use Rattle.words.specs.Tagged.{tag_of, address_of}
+use Rattle.bitmap.specs.Bitmap.{bit_at, bit_put, any_from, put_run}
+use Rattle.page.specs.Page.{lent, fits_b, workers_b, block_b, run_b, good_b, sound_b, place, block_of}
+use Rattle.page.specs.Page as page
+use Rattle.page.specs.Walk.{walk_from, walk_of, last_of}
+use Rattle.page.specs.Sequences.{hit, up_from}
+use Rattle.lists.specs.Lists.{Lists}
+use Rattle.lists.specs.Own.{with, insert_act, pop_act, append_act, extend_act, release_act, empty_act}
+use Rattle.operations.specs.Operations.{push_shared, ask_tag, loading, writing, exchanging, swapping, staged_b, pushes_b, takes_b, on_shared_b, on_tagged_b, word_of, off_b, full_b, first_stage, stages_of, one_of, record8}
+use Rattle.staged.specs.Workers.{begun, at_stage}
+use Rattle.staged.specs.Start.{start_fits_b, start_act}
+use Rattle.staged.specs.Damage.{Turn, turn, head_word, hand_bad, tag_on_shared, seen_bad, head_bad, sightings_bad, tag_bad, any, damaged_b}
+use Rattle.staged.specs.Moves.{goes_on, ends, ends_with, load_ask, load_await, load_act, write_act, new_word, exchange_value, fails_b, exchange_act, swap_act, mask_act, move_act}
+use Rattle.machine.specs.Config.{Config, config, state_of, lists_of, starter_of, turn_of, put_lists, put_starter, put_turn, over, rules_b, fresh_state}
+use Rattle.machine.specs.Table.{pop, append, arguments_fit_b, any_named, own_unsound, link_unsound, walk_broken, request_damaged_b, request_rows, request_refusal, move_rows, move_refusal, any_busy, on_rows, off_rows}
+use Rattle.machine.specs.Requests.{at_once_act, request_act, request_of}
+use Rattle.machine.specs.Moves.{move_of}
+use Rattle.machine.specs.Switch.{switch_on_of, switch_off_of}
+use Rattle.demands.specs.Simple.{start}
+use Rattle.demands.specs.Simple as simple
+use Rattle.demands.specs.Moments.{Event, request, move, on, off, store, Machine, step, simple_step, ends_at_load, act_of, moment}
+use Rattle.demands.specs.Sightings.{sights}
+use Rattle.demands.specs.Every.{Refines}
+use Rattle.demands.specs.ByHand.{pushes, takes, sets}
+use Rattle.demands.proofs.Testing.{same, gives, keeps_up, kept, quiet, all_quiet, all-neither}
 
 -- ---- a small page: seven blocks of two words, three workers
 
 abbrev small : Config
-small = config (freshState 7 2 3) (replicate 16 5) (0 ∷ [])
+small = config (fresh_state 7 2 3) (replicate 16 5) (0 ∷ [])
 
 abbrev KeepsUp : Machine → List Event → Bool
-KeepsUp f es = keepsUp f small (start 7 3) es
+KeepsUp f es = keeps_up f small (start 7 3) es
 
 -- a machine does not meet demand 3 on a run
 abbrev Fails : Machine → List Event → Type 0
 Fails f es = Refines f small (start 7 3) es → ⊥
 
 fails : (f : Machine) (es : List Event) → KeepsUp f es ≡ false → Fails f es
-fails f es e r = true≢false (sym (kept f small (start 7 3) es (r .answers)) ∙ e)
+fails f es e r = true≢false (sym (kept f small (start 7 3) es r.answers) ∙ e)
 
 -- ---- variants
 
 -- another rule for what acts at once
-abbrev atOnceBy : (Lists → ℕ → ℕ → ℕ → Outcome Lists) → Machine
-atOnceBy g c (request w code a b) =
-    unless (requestRefusal c w code a b) c
-    (cond (stagedB code) (over (putStarter c w) (startAct (starterOf c w) code a)) (over (putLists c w) (g (listsOf c w) code a b)))
-atOnceBy g c (move w flag) = step c (move w flag)
-atOnceBy g c on = step c on
-atOnceBy g c off = step c off
-atOnceBy g c (store k v) = step c (store k v)
+abbrev at_once_by : (Lists → ℕ → ℕ → ℕ → Outcome Lists) → Machine
+at_once_by g c (request w code a b) =
+    unless (request_refusal c w code a b) c
+    (cond (staged_b code) (over (put_starter c w) (start_act (starter_of c w) code a)) (over (put_lists c w) (g (lists_of c w) code a b)))
+at_once_by g c (move w flag) = step c (move w flag)
+at_once_by g c on = step c on
+at_once_by g c off = step c off
+at_once_by g c (store k v) = step c (store k v)
 
 -- another rule for moves
-abbrev movesBy : (Turn → Bool → Outcome Turn) → Machine
-movesBy f c (request w code a b) = step c (request w code a b)
-movesBy f c (move w flag) = unless (moveRefusal c w) c (over (putTurn c w) (f (turnOf c w) flag))
-movesBy f c on = step c on
-movesBy f c off = step c off
-movesBy f c (store k v) = step c (store k v)
+abbrev moves_by : (Turn → Bool → Outcome Turn) → Machine
+moves_by f c (request w code a b) = step c (request w code a b)
+moves_by f c (move w flag) = unless (move_refusal c w) c (over (put_turn c w) (f (turn_of c w) flag))
+moves_by f c on = step c on
+moves_by f c off = step c off
+moves_by f c (store k v) = step c (store k v)
 
 -- another value
 abbrev valued : {C : Type 0} → ℕ → Outcome C → Outcome C
-valued v o = outcome (o .number) v (o .after)
+valued v o = outcome o.number v o.after
 
-abbrev atStageBy : ℕ → (Turn → Bool → Outcome Turn) → Turn → Bool → Outcome Turn
-atStageBy stage f t flag = cond (eqb (t .worker .stage) stage) (f t flag) (moveAct t flag)
+abbrev at_stage_by : ℕ → (Turn → Bool → Outcome Turn) → Turn → Bool → Outcome Turn
+at_stage_by stage f t flag = cond (eqb t.worker.stage stage) (f t flag) (move_act t flag)
 
 -- ---- runs
 
@@ -93,124 +93,124 @@ abbrev refuses : Machine
 refuses c e = refused 4 c
 
 -- always block 1, and always value 0, at a pop
-abbrev popsOne : Machine
-popsOne = atOnceBy (λ l code a b. cond (eqb code pop) (valued 1 (popAct l)) (atOnceAct l code a b))
+abbrev pops_one : Machine
+pops_one = at_once_by (λ l code a b. cond (eqb code pop) (valued 1 (pop_act l)) (at_once_act l code a b))
 
-abbrev popsZero : Machine
-popsZero = atOnceBy (λ l code a b. cond (eqb code pop) (valued 0 (popAct l)) (atOnceAct l code a b))
+abbrev pops_zero : Machine
+pops_zero = at_once_by (λ l code a b. cond (eqb code pop) (valued 0 (pop_act l)) (at_once_act l code a b))
 
 -- the same at a take
-abbrev takesOne : Machine
-takesOne = movesBy (atStageBy swapping (λ t flag. valued 1 (swapAct t)))
+abbrev takes_one : Machine
+takes_one = moves_by (at_stage_by swapping (λ t flag. valued 1 (swap_act t)))
 
-abbrev takesZero : Machine
-takesZero = movesBy (atStageBy swapping (λ t flag. valued 0 (swapAct t)))
+abbrev takes_zero : Machine
+takes_zero = moves_by (at_stage_by swapping (λ t flag. valued 0 (swap_act t)))
 
 -- touching nothing
-abbrev touchesNothing : Machine
-touchesNothing c e = outcome (step c e .number) (step c e .value) c
+abbrev touches_nothing : Machine
+touches_nothing c e = outcome (step c e).number (step c e).value c
 
 -- the block is linked when it is asked for, and the moves do nothing
-abbrev linksAtRequest : Machine
-linksAtRequest c (request w code a b) =
-    cond (eqb code pushShared)
-    (unless (requestRefusal c w code a b) c
+abbrev links_at_request : Machine
+links_at_request c (request w code a b) =
+    cond (eqb code push_shared)
+    (unless (request_refusal c w code a b) c
     (outcome 1 0
     (config
-    (stateOf (c .state .n) (c .state .bw) (c .state .w) (page.addressOf (c .state .bw) a) (c .state .tagged) (c .state .on) (set (c .state .workers) w (begun (turnOf c w .worker) code a)))
-    (set (c .page) (place (c .state .bw) a) (c .state .shared)) (bitPut (c .bits) a 1))))
+    (state_of c.state.n c.state.bw c.state.w (page.address_of c.state.bw a) c.state.tagged c.state.on (set c.state.workers w (begun (turn_of c w).worker code a)))
+    (set c.page (place c.state.bw a) c.state.shared) (bit_put c.bits a 1))))
     (step c (request w code a b))
-linksAtRequest c (move w flag) =
-    movesBy
-    (λ t f. cond (eqb (t .worker .operation) pushShared)
-    (cond (eqb (t .worker .stage) exchanging) (ends t 0) (goesOn t (atStage (t .worker) (t .worker .stage + 1)))) (moveAct t f))
+links_at_request c (move w flag) =
+    moves_by
+    (λ t f. cond (eqb t.worker.operation push_shared)
+    (cond (eqb t.worker.stage exchanging) (ends t 0) (goes_on t (at_stage t.worker (t.worker.stage + 1)))) (move_act t f))
     c (move w flag)
-linksAtRequest c on = step c on
-linksAtRequest c off = step c off
-linksAtRequest c (store k v) = step c (store k v)
+links_at_request c on = step c on
+links_at_request c off = step c off
+links_at_request c (store k v) = step c (store k v)
 
 -- an invented append count
-abbrev inventsCount : Machine
-inventsCount = atOnceBy (λ l code a b. cond (eqb code append) (valued 7 (appendAct l)) (atOnceAct l code a b))
+abbrev invents_count : Machine
+invents_count = at_once_by (λ l code a b. cond (eqb code append) (valued 7 (append_act l)) (at_once_act l code a b))
 
 -- ---- slips
 
 -- own before got in append, with the right count
-abbrev ownFirst : Machine
-ownFirst =
-    atOnceBy
+abbrev own_first : Machine
+own_first =
+    at_once_by
     (λ l code a b. cond (eqb code append)
-    (valued (length (walkOf (l .lent) (l .got) .blocks)) (appendAct (record { own = l .got; got = l .own; lent = l .lent }))) (atOnceAct l code a b))
+    (valued (length (walk_of l.lent l.got).blocks) (append_act (record { own = l.got; got = l.own; lent = l.lent }))) (at_once_act l code a b))
 
 -- only the front block moved
-abbrev frontOnly : Machine
-frontOnly =
-    atOnceBy
+abbrev front_only : Machine
+front_only =
+    at_once_by
     (λ l code a b. cond (eqb code append)
-    (outcome 0 (length (walkOf (l .lent) (l .got) .blocks)) (with l (l .got) 0 (set (l .lent .page) (place (l .lent .bw) (blockOf (l .lent .bw) (l .got))) (l .own)) (l .lent .bits)))
-    (atOnceAct l code a b))
+    (outcome 0 (length (walk_of l.lent l.got).blocks) (with l l.got 0 (set l.lent.page (place l.lent.bw (block_of l.lent.bw l.got)) l.own) l.lent.bits))
+    (at_once_act l code a b))
 
 -- the link is the word seen, tag and all
-abbrev tagLinked : Machine
-tagLinked =
-    movesBy
-    (atStageBy writing
+abbrev tag_linked : Machine
+tag_linked =
+    moves_by
+    (at_stage_by writing
     (λ t flag. outcome 1 0
-    (turn (atStage (t .worker) exchanging) (t .shared) (t .tagged) (t .on)
-    (lent (t .lent .n) (t .lent .bw) (set (t .lent .page) (place (t .lent .bw) (t .worker .hand)) (t .worker .seen)) (t .lent .bits)))))
+    (turn (at_stage t.worker exchanging) t.shared t.tagged t.on
+    (lent t.lent.n t.lent.bw (set t.lent.page (place t.lent.bw t.worker.hand) t.worker.seen) t.lent.bits))))
 
 -- sightings reset after a failed exchange
-abbrev resetsSightings : Machine
-resetsSightings =
-    movesBy
-    (atStageBy exchanging
+abbrev resets_sightings : Machine
+resets_sightings =
+    moves_by
+    (at_stage_by exchanging
     (λ t flag. cond flag
-    (goesOn t (record8 (t .worker .own) (t .worker .got) (t .worker .operation) loading (t .worker .tag) (t .worker .hand) (t .worker .seen) 0)) (exchangeAct t flag)))
+    (goes_on t (record8 t.worker.own t.worker.got t.worker.operation loading t.worker.tag t.worker.hand t.worker.seen 0)) (exchange_act t flag)))
 
 -- stopping at the fourth sighting
-abbrev stopsAtFourth : Machine
-stopsAtFourth =
-    movesBy
-    (atStageBy loading
-    (λ t flag. cond (eqb (t .worker .operation) askTag && (eqb (tagOf (headWord t)) 1 && leb 3 (t .worker .sightings))) (ends t 0) (loadAct t)))
+abbrev stops_at_fourth : Machine
+stops_at_fourth =
+    moves_by
+    (at_stage_by loading
+    (λ t flag. cond (eqb t.worker.operation ask_tag && (eqb (tag_of (head_word t)) 1 && leb 3 t.worker.sightings)) (ends t 0) (load_act t)))
 
 -- a take clears the bit of the front block
-abbrev clearsAtTake : Machine
-clearsAtTake =
-    movesBy
-    (atStageBy swapping
-    (λ t flag. outcome 0 (swapAct t .value)
-    (turn (swapAct t .after .worker) 0 (t .tagged) (t .on)
-    (lent (t .lent .n) (t .lent .bw) (t .lent .page) (bitPut (t .lent .bits) (blockOf (t .lent .bw) (t .shared)) 0)))))
+abbrev clears_at_take : Machine
+clears_at_take =
+    moves_by
+    (at_stage_by swapping
+    (λ t flag. outcome 0 (swap_act t).value
+    (turn (swap_act t).after.worker 0 t.tagged t.on
+    (lent t.lent.n t.lent.bw t.lent.page (bit_put t.lent.bits (block_of t.lent.bw t.shared) 0)))))
 
 -- ---- others
 
 -- an exchange without comparing
-abbrev comparesNot : Machine
-comparesNot =
-    movesBy
-    (atStageBy exchanging (λ t flag. cond flag (goesOn t (atStage (t .worker) loading)) (endsWith t (exchangeValue (t .worker)) (newWord (t .worker) (t .lent .bw)))))
+abbrev compares_not : Machine
+compares_not =
+    moves_by
+    (at_stage_by exchanging (λ t flag. cond flag (goes_on t (at_stage t.worker loading)) (ends_with t (exchange_value t.worker) (new_word t.worker t.lent.bw))))
 
 -- an exchange that ignores the flag
-abbrev ignoresFlag : Machine
-ignoresFlag = movesBy (atStageBy exchanging (λ t flag. exchangeAct t false))
+abbrev ignores_flag : Machine
+ignores_flag = moves_by (at_stage_by exchanging (λ t flag. exchange_act t false))
 
 -- a take that leaves S
-abbrev leavesShared : Machine
-leavesShared =
-    movesBy (atStageBy swapping (λ t flag. outcome 0 (swapAct t .value) (turn (swapAct t .after .worker) (t .shared) (t .tagged) (t .on) (t .lent))))
+abbrev leaves_shared : Machine
+leaves_shared =
+    moves_by (at_stage_by swapping (λ t flag. outcome 0 (swap_act t).value (turn (swap_act t).after.worker t.shared t.tagged t.on t.lent)))
 
 -- a link written before the load
-abbrev writesFirst : Machine
-writesFirst =
-    movesBy
-    (λ t flag. cond (eqb (t .worker .stage) loading && pushesB (t .worker .operation)) (outcome 1 0 (turn (atStage (t .worker) writing) (t .shared) (t .tagged) (t .on) (writeAct t .after .lent)))
-    (cond (eqb (t .worker .stage) writing)
-    (goesOn t (record8 (t .worker .own) (t .worker .got) (t .worker .operation) exchanging (t .worker .tag) (t .worker .hand) (headWord t) (t .worker .sightings))) (moveAct t flag)))
+abbrev writes_first : Machine
+writes_first =
+    moves_by
+    (λ t flag. cond (eqb t.worker.stage loading && pushes_b t.worker.operation) (outcome 1 0 (turn (at_stage t.worker writing) t.shared t.tagged t.on (write_act t).after.lent))
+    (cond (eqb t.worker.stage writing)
+    (goes_on t (record8 t.worker.own t.worker.got t.worker.operation exchanging t.worker.tag t.worker.hand (head_word t) t.worker.sightings)) (move_act t flag)))
 
 -- a hand not emptied at its moment
-abbrev keepsHand : Machine
-keepsHand = movesBy (λ t flag. cond (eqb (moveAct t flag .number) 0 && pushesB (t .worker .operation)) (outcome 0 (moveAct t flag .value) (turn (t .worker) (moveAct t flag .after .shared) (moveAct t flag .after .tagged) (t .on) (t .lent))) (moveAct t flag))
+abbrev keeps_hand : Machine
+keeps_hand = moves_by (λ t flag. cond (eqb (move_act t flag).number 0 && pushes_b t.worker.operation) (outcome 0 (move_act t flag).value (turn t.worker (move_act t flag).after.shared (move_act t flag).after.tagged t.on t.lent)) (move_act t flag))
 
 -- ---- runs on which they part
 
@@ -241,59 +241,59 @@ abbrev taken : List Event
 taken = pushes 0 4 ++ (takes 1 ++ (request 2 1 4 0 ∷ (takes 2 ++ (request 0 1 5 0 ∷ []))))
 
 -- four sightings and a failed exchange before the fifth, which does not end the operation
-resets-fail : Fails resetsSightings asked-run
-unfolding allQuiet quiet sights all first digit putDigit bitAt bitPut anyFrom putRun fitsB workersB blockB runB goodB soundB walkFrom lastOf hit upFrom insertAct popAct appendAct extendAct releaseAct emptyAct stagedB pushesB takesB onSharedB onTaggedB wordOf offB fullB firstStage stagesOf oneOf begun startFitsB startAct handBad tagOnShared seenBad headBad sightingsBad tagBad any damagedB loadAsk loadAwait loadAct writeAct newWord exchangeValue failsB exchangeAct swapAct maskAct moveAct rulesB argumentsFitB anyNamed ownUnsound linkUnsound walkBroken requestDamagedB requestRows moveRows anyBusy onRows offRows atOnceAct requestAct requestOf moveOf switchOnOf switchOffOf step simpleStep endsAtLoad actOf moment simple.insert simple.pop simple.append simple.extend simple.release simple.askEmpty simple.beginPushShared simple.beginTakeShared simple.beginPushTagged simple.beginTakeTagged simple.beginSetTag simple.beginAskTag simple.beginAwaitTag simple.request simple.act simple.move simple.switchOn simple.switchOff
+resets-fail : Fails resets_sightings asked-run
+unfolding all_quiet quiet sights all first digit put_digit bit_at bit_put any_from put_run fits_b workers_b block_b run_b good_b sound_b walk_from last_of hit up_from insert_act pop_act append_act extend_act release_act empty_act staged_b pushes_b takes_b on_shared_b on_tagged_b word_of off_b full_b first_stage stages_of one_of begun start_fits_b start_act hand_bad tag_on_shared seen_bad head_bad sightings_bad tag_bad any damaged_b load_ask load_await load_act write_act new_word exchange_value fails_b exchange_act swap_act mask_act move_act rules_b arguments_fit_b any_named own_unsound link_unsound walk_broken request_damaged_b request_rows move_rows any_busy on_rows off_rows at_once_act request_act request_of move_of switch_on_of switch_off_of step simple_step ends_at_load act_of moment simple.insert simple.pop simple.append simple.extend simple.release simple.ask_empty simple.begin_push_shared simple.begin_take_shared simple.begin_push_tagged simple.begin_take_tagged simple.begin_set_tag simple.begin_ask_tag simple.begin_await_tag simple.request simple.act simple.move simple.switch_on simple.switch_off
 resets-fail r =
-    let fifth = r .sightings 1 4 17 (record { within = omega arith; code = 11; a = 0; b = 0; event = refl; number = refl }) refl (omega arith) (omega arith)
-    (λ j lo hi. all-neither resetsSightings small asked-run 1 5 12 refl j lo hi) refl in
-    let z : _≡_ {A = ℕ} 1 0 = fifth .1 refl in
+    let fifth = r.sightings 1 4 17 (record { within = omega arith; code = 11; a = 0; b = 0; event = refl; number = refl }) refl (omega arith) (omega arith)
+    (λ j lo hi. all-neither resets_sightings small asked-run 1 5 12 refl j lo hi) refl in
+    let z : ◌≡◌ {A = ℕ} 1 0 = fifth.1 refl in
     omega arith
 
 pub wrong-machines-fail :
     Fails refuses merged
-    × Fails popsOne merged
-    × Fails popsZero merged
-    × Fails takesOne merged
-    × Fails takesZero merged
-    × Fails touchesNothing merged
-    × Fails linksAtRequest between
-    × Fails inventsCount merged
-    × Fails ownFirst merged
-    × Fails frontOnly merged
-    × Fails tagLinked tagged-run
-    × Fails resetsSightings asked-run
-    × Fails stopsAtFourth asked-run
-    × Fails clearsAtTake taken
-    × Fails comparesNot contended
-    × Fails ignoresFlag contended
-    × Fails leavesShared taken
-    × Fails writesFirst merged
-    × Fails keepsHand taken
-unfolding keepsUp gives same all first digit putDigit bitAt bitPut anyFrom putRun fitsB workersB blockB runB goodB soundB walkFrom lastOf hit upFrom insertAct popAct appendAct extendAct releaseAct emptyAct stagedB pushesB takesB onSharedB onTaggedB wordOf offB fullB firstStage stagesOf oneOf begun startFitsB startAct handBad tagOnShared seenBad headBad sightingsBad tagBad any damagedB loadAsk loadAwait loadAct writeAct newWord exchangeValue failsB exchangeAct swapAct maskAct moveAct rulesB argumentsFitB anyNamed ownUnsound linkUnsound walkBroken requestDamagedB requestRows moveRows anyBusy onRows offRows atOnceAct requestAct requestOf moveOf switchOnOf switchOffOf step simpleStep endsAtLoad actOf moment simple.insert simple.pop simple.append simple.extend simple.release simple.askEmpty simple.beginPushShared simple.beginTakeShared simple.beginPushTagged simple.beginTakeTagged simple.beginSetTag simple.beginAskTag simple.beginAwaitTag simple.request simple.act simple.move simple.switchOn simple.switchOff
+    × Fails pops_one merged
+    × Fails pops_zero merged
+    × Fails takes_one merged
+    × Fails takes_zero merged
+    × Fails touches_nothing merged
+    × Fails links_at_request between
+    × Fails invents_count merged
+    × Fails own_first merged
+    × Fails front_only merged
+    × Fails tag_linked tagged-run
+    × Fails resets_sightings asked-run
+    × Fails stops_at_fourth asked-run
+    × Fails clears_at_take taken
+    × Fails compares_not contended
+    × Fails ignores_flag contended
+    × Fails leaves_shared taken
+    × Fails writes_first merged
+    × Fails keeps_hand taken
+unfolding keeps_up gives same all first digit put_digit bit_at bit_put any_from put_run fits_b workers_b block_b run_b good_b sound_b walk_from last_of hit up_from insert_act pop_act append_act extend_act release_act empty_act staged_b pushes_b takes_b on_shared_b on_tagged_b word_of off_b full_b first_stage stages_of one_of begun start_fits_b start_act hand_bad tag_on_shared seen_bad head_bad sightings_bad tag_bad any damaged_b load_ask load_await load_act write_act new_word exchange_value fails_b exchange_act swap_act mask_act move_act rules_b arguments_fit_b any_named own_unsound link_unsound walk_broken request_damaged_b request_rows move_rows any_busy on_rows off_rows at_once_act request_act request_of move_of switch_on_of switch_off_of step simple_step ends_at_load act_of moment simple.insert simple.pop simple.append simple.extend simple.release simple.ask_empty simple.begin_push_shared simple.begin_take_shared simple.begin_push_tagged simple.begin_take_tagged simple.begin_set_tag simple.begin_ask_tag simple.begin_await_tag simple.request simple.act simple.move simple.switch_on simple.switch_off
 wrong-machines-fail = (
   fails refuses merged refl,
-  fails popsOne merged refl,
-  fails popsZero merged refl,
-  fails takesOne merged refl,
-  fails takesZero merged refl,
-  fails touchesNothing merged refl,
-  fails linksAtRequest between refl,
-  fails inventsCount merged refl,
-  fails ownFirst merged refl,
-  fails frontOnly merged refl,
-  fails tagLinked tagged-run refl,
+  fails pops_one merged refl,
+  fails pops_zero merged refl,
+  fails takes_one merged refl,
+  fails takes_zero merged refl,
+  fails touches_nothing merged refl,
+  fails links_at_request between refl,
+  fails invents_count merged refl,
+  fails own_first merged refl,
+  fails front_only merged refl,
+  fails tag_linked tagged-run refl,
   resets-fail,
-  fails stopsAtFourth asked-run refl,
-  fails clearsAtTake taken refl,
-  fails comparesNot contended refl,
-  fails ignoresFlag contended refl,
-  fails leavesShared taken refl,
-  fails writesFirst merged refl,
-  fails keepsHand taken refl,
+  fails stops_at_fourth asked-run refl,
+  fails clears_at_take taken refl,
+  fails compares_not contended refl,
+  fails ignores_flag contended refl,
+  fails leaves_shared taken refl,
+  fails writes_first merged refl,
+  fails keeps_hand taken refl,
 )
 
 -- the real machine gives what is due on every one of these runs
 real-machine-keeps-up :
     (KeepsUp step merged ≡ true) × (KeepsUp step between ≡ true) × (KeepsUp step tagged-run ≡ true) × (KeepsUp step asked-run ≡ true) × (KeepsUp step contended ≡ true) × (KeepsUp step taken ≡ true)
-unfolding keepsUp gives same all first digit putDigit bitAt bitPut anyFrom putRun fitsB workersB blockB runB goodB soundB walkFrom lastOf hit upFrom insertAct popAct appendAct extendAct releaseAct emptyAct stagedB pushesB takesB onSharedB onTaggedB wordOf offB fullB firstStage stagesOf oneOf begun startFitsB startAct handBad tagOnShared seenBad headBad sightingsBad tagBad any damagedB loadAsk loadAwait loadAct writeAct newWord exchangeValue failsB exchangeAct swapAct maskAct moveAct rulesB argumentsFitB anyNamed ownUnsound linkUnsound walkBroken requestDamagedB requestRows moveRows anyBusy onRows offRows atOnceAct requestAct requestOf moveOf switchOnOf switchOffOf step simpleStep endsAtLoad actOf moment simple.insert simple.pop simple.append simple.extend simple.release simple.askEmpty simple.beginPushShared simple.beginTakeShared simple.beginPushTagged simple.beginTakeTagged simple.beginSetTag simple.beginAskTag simple.beginAwaitTag simple.request simple.act simple.move simple.switchOn simple.switchOff
+unfolding keeps_up gives same all first digit put_digit bit_at bit_put any_from put_run fits_b workers_b block_b run_b good_b sound_b walk_from last_of hit up_from insert_act pop_act append_act extend_act release_act empty_act staged_b pushes_b takes_b on_shared_b on_tagged_b word_of off_b full_b first_stage stages_of one_of begun start_fits_b start_act hand_bad tag_on_shared seen_bad head_bad sightings_bad tag_bad any damaged_b load_ask load_await load_act write_act new_word exchange_value fails_b exchange_act swap_act mask_act move_act rules_b arguments_fit_b any_named own_unsound link_unsound walk_broken request_damaged_b request_rows move_rows any_busy on_rows off_rows at_once_act request_act request_of move_of switch_on_of switch_off_of step simple_step ends_at_load act_of moment simple.insert simple.pop simple.append simple.extend simple.release simple.ask_empty simple.begin_push_shared simple.begin_take_shared simple.begin_push_tagged simple.begin_take_tagged simple.begin_set_tag simple.begin_ask_tag simple.begin_await_tag simple.request simple.act simple.move simple.switch_on simple.switch_off
 real-machine-keeps-up = (refl, refl, refl, refl, refl, refl)

@@ -1,14 +1,9 @@
 -- The operations of one worker in a run, each with its span: from the request that begins it to the move that answers
 -- it. That each acts once, between the two (demand 3).
-use Prim.Native.Nat.{ℕ, _≤_, _<_}
-use mathlib.Core.Path.{_≡_}
-use mathlib.Core.Logic.{_⊎_, _↔_}
-use mathlib.Core.Bool.{Bool, true}
-use mathlib.Core.List.{List}
-use lib.ListN.{length}
-use Rattle·machine.specs.Config.{Config}
-use Rattle·demands·specs.specs.Moments.{Event, request, move, Machine, isAct}
-use Rattle·demands·specs.specs.Positions.{eventAt, outcomeAt, momentAt}
+use Rattle.std.specs.Prelude.{ℕ, ◌≤◌, ◌<◌, ◌≡◌, ◌⊎◌, ◌↔◌, Bool, true, List, length}
+use Rattle.machine.specs.Config.{Config}
+use Rattle.demands.specs.Moments.{Event, request, move, Machine, is_act}
+use Rattle.demands.specs.Positions.{event_at, outcome_at, moment_at}
 
 module _ (f : Machine) (c : Config) (es : List Event) (w : ℕ) where
   -- event k begins an operation: it is a request of worker w that is answered 1
@@ -17,22 +12,22 @@ module _ (f : Machine) (c : Config) (es : List Event) (w : ℕ) where
     pub code : ℕ
     pub a : ℕ
     pub b : ℕ
-    pub event : eventAt es k ≡ request w code a b
-    pub number : outcomeAt f c es k .number ≡ 1
+    pub event : event_at es k ≡ request w code a b
+    pub number : (outcome_at f c es k).number ≡ 1
 
   -- event k answers an operation: it is a move of worker w that is answered 0
   pub record Finishes (k : ℕ) : Type 0 where
     pub within : k < length es
     pub flag : Bool
-    pub event : eventAt es k ≡ move w flag
-    pub number : outcomeAt f c es k .number ≡ 0
+    pub event : event_at es k ≡ move w flag
+    pub number : (outcome_at f c es k).number ≡ 0
 
   -- event k is the moment of an act: a move of worker w that exchanges, swaps, masks or ends at its load
   pub record Acts (k : ℕ) : Type 0 where
     pub within : k < length es
     pub flag : Bool
-    pub event : eventAt es k ≡ move w flag
-    pub act : isAct (momentAt f c es k) ≡ true
+    pub event : event_at es k ≡ move w flag
+    pub act : is_act (moment_at f c es k) ≡ true
 
   -- event k neither begins nor answers an operation of worker w
   abbrev pub Neither : ℕ → Type 0

@@ -1,23 +1,17 @@
 -- The trail of one block: each event of a run that moved it, by its position, the worker who did it, from where to
 -- where, how many blocks stood before it when it left and stand before it where it arrived, and how many blocks that
 -- worker had read before. No proof stands in this file.
-use Prim.Native.Nat.{ℕ, zero, suc, _+_, _<_}
-use mathlib.Core.Path.{_≡_}
-use mathlib.Core.Logic.{_≢_, _⊎_}
-use mathlib.Core.Bool.{Bool, true, false, _&&_, cond}
-use mathlib.Core.List.{List, [], _∷_, _++_}
-use lib.Dec.{eqb}
-use lib.ListN.{length}
-use Rattle·words.specs.Tagged.{addressOf}
-use Rattle·bitmap.specs.Bitmap.{bitAt}
-use Rattle·page.specs.Walk.{walkOf}
-use Rattle·machine.specs.Config.{Config, lentOf, workerOf}
-use Rattle·machine.specs.Facts.{PageFact}
-use Rattle·demands·specs.specs.Simple.{Simple, start}
-use Rattle·demands·specs.specs.Moments.{Event, request, move, on, off, store, Machine, step, Allowed}
-use Rattle·demands·specs.specs.Positions.{eventAt, configAt, outcomeAt, simpleAt, Throughout}
-use Rattle·demands·specs.specs.Places.{Place, caller, shared, tagged, own, got, hand, IsAt, placeOf, spotOf, ReadAfter, IsOrder}
-use Rattle·demands·specs.specs.Every.{fresh}
+use Rattle.std.specs.Prelude.{ℕ, zero, suc, ◌+◌, ◌<◌, ◌≡◌, ◌≢◌, ◌⊎◌, Bool, true, false, ◌&&◌, cond, List, [], ◌∷◌, ◌++◌, eqb, length}
+use Rattle.words.specs.Tagged.{address_of}
+use Rattle.bitmap.specs.Bitmap.{bit_at}
+use Rattle.page.specs.Walk.{walk_of}
+use Rattle.machine.specs.Config.{Config, lent_of, worker_of}
+use Rattle.machine.specs.Facts.{PageFact}
+use Rattle.demands.specs.Simple.{Simple, start}
+use Rattle.demands.specs.Moments.{Event, request, move, on, off, store, Machine, step, Allowed}
+use Rattle.demands.specs.Positions.{event_at, config_at, outcome_at, simple_at, Throughout}
+use Rattle.demands.specs.Places.{Place, caller, shared, tagged, own, got, hand, IsAt, place_of, spot_of, ReadAfter, IsOrder}
+use Rattle.demands.specs.Every.{fresh}
 
 -- ---- the trail
 
@@ -50,18 +44,18 @@ pops w off number = 0
 pops w (store k v) number = 0
 
 -- how many blocks worker w has popped before event k
-abbrev pub readBefore : Machine → Config → List Event → ℕ → ℕ → ℕ
-readBefore f c es w zero = 0
-readBefore f c es w (suc k) = readBefore f c es w k + pops w (eventAt es k) (outcomeAt f c es k .number)
+abbrev pub read_before : Machine → Config → List Event → ℕ → ℕ → ℕ
+read_before f c es w zero = 0
+read_before f c es w (suc k) = read_before f c es w k + pops w (event_at es k) (outcome_at f c es k).number
 
 -- a place by its kind and its worker
-unfoldable pub kindOf : Place → ℕ
-kindOf caller = 0
-kindOf shared = 1
-kindOf tagged = 2
-kindOf (own w) = 3
-kindOf (got w) = 4
-kindOf (hand w) = 5
+unfoldable pub kind_of : Place → ℕ
+kind_of caller = 0
+kind_of shared = 1
+kind_of tagged = 2
+kind_of (own w) = 3
+kind_of (got w) = 4
+kind_of (hand w) = 5
 
 unfoldable pub whose : Place → ℕ
 whose caller = 0
@@ -72,56 +66,56 @@ whose (got w) = w
 whose (hand w) = w
 
 -- the same place
-unfoldable pub samePlace : Place → Place → Bool
-samePlace p q = eqb (kindOf p) (kindOf q) && eqb (whose p) (whose q)
+unfoldable pub same_place : Place → Place → Bool
+same_place p q = eqb (kind_of p) (kind_of q) && eqb (whose p) (whose q)
 
 -- what event k does to the block
-abbrev pub stepOf : ℕ → Machine → Config → Simple → List Event → ℕ → Step
-stepOf i f c s es k =
+abbrev pub step_of : ℕ → Machine → Config → Simple → List Event → ℕ → Step
+step_of i f c s es k =
     record {
       position = k;
-      event = eventAt es k;
-      worker = doer (eventAt es k);
-      from = placeOf i (simpleAt f c s es k);
-      left = spotOf i (simpleAt f c s es k) .order;
-      to = placeOf i (simpleAt f c s es (suc k));
-      arrived = spotOf i (simpleAt f c s es (suc k)) .order;
-      read = readBefore f c es (doer (eventAt es k)) k;
+      event = event_at es k;
+      worker = doer (event_at es k);
+      from = place_of i (simple_at f c s es k);
+      left = (spot_of i (simple_at f c s es k)).order;
+      to = place_of i (simple_at f c s es (suc k));
+      arrived = (spot_of i (simple_at f c s es (suc k))).order;
+      read = read_before f c es (doer (event_at es k)) k;
     }
 
 -- it is a step of the trail unless the block stays at its place
-abbrev pub unlessSame : Bool → Step → List Step
-unlessSame true t = []
-unlessSame false t = t ∷ []
+abbrev pub unless_same : Bool → Step → List Step
+unless_same true t = []
+unless_same false t = t ∷ []
 
 -- the trail over the first events, and over all of them
-abbrev pub trailTo : ℕ → Machine → Config → Simple → List Event → ℕ → List Step
-trailTo i f c s es zero = []
-trailTo i f c s es (suc k) =
-    trailTo i f c s es k
-    ++ unlessSame (samePlace (placeOf i (simpleAt f c s es k)) (placeOf i (simpleAt f c s es (suc k)))) (stepOf i f c s es k)
+abbrev pub trail_to : ℕ → Machine → Config → Simple → List Event → ℕ → List Step
+trail_to i f c s es zero = []
+trail_to i f c s es (suc k) =
+    trail_to i f c s es k
+    ++ unless_same (same_place (place_of i (simple_at f c s es k)) (place_of i (simple_at f c s es (suc k)))) (step_of i f c s es k)
 
 abbrev pub trail : ℕ → Machine → Config → Simple → List Event → List Step
-trail i f c s es = trailTo i f c s es (length es)
+trail i f c s es = trail_to i f c s es (length es)
 
 -- ---- every step is there, and no other
 
 -- event k moved the block: where it was and is, and its orders there
 pub record MovedBy (i : ℕ) (f : Machine) (c : Config) (s : Simple) (es : List Event) (k : ℕ) (t : Step) : Type 0 where
-  pub position : t .position ≡ k
-  pub event : t .event ≡ eventAt es k
-  pub worker : t .worker ≡ doer (eventAt es k)
-  pub away : t .from ≢ t .to
-  pub was : IsAt i (simpleAt f c s es k) (t .from)
-  pub left : IsOrder i (simpleAt f c s es k) (t .from) (t .left)
-  pub is : IsAt i (simpleAt f c s es (suc k)) (t .to)
-  pub arrived : IsOrder i (simpleAt f c s es (suc k)) (t .to) (t .arrived)
-  pub read : t .read ≡ readBefore f c es (t .worker) k
+  pub position : t.position ≡ k
+  pub event : t.event ≡ event_at es k
+  pub worker : t.worker ≡ doer (event_at es k)
+  pub away : t.from ≢ t.to
+  pub was : IsAt i (simple_at f c s es k) t.from
+  pub left : IsOrder i (simple_at f c s es k) t.from t.left
+  pub is : IsAt i (simple_at f c s es (suc k)) t.to
+  pub arrived : IsOrder i (simple_at f c s es (suc k)) t.to t.arrived
+  pub read : t.read ≡ read_before f c es t.worker k
 
 -- each event in turn leaves the block at its place and has no step, or moved it and has the next one
 pub data Told (i : ℕ) (f : Machine) (c : Config) (s : Simple) (es : List Event) : ℕ → List Step → Type 0 where
   begins : Told i f c s es 0 []
-  stays : {k : ℕ} {ts : List Step} → Told i f c s es k ts → placeOf i (simpleAt f c s es k) ≡ placeOf i (simpleAt f c s es (suc k)) → Told i f c s es (suc k) ts
+  stays : {k : ℕ} {ts : List Step} → Told i f c s es k ts → place_of i (simple_at f c s es k) ≡ place_of i (simple_at f c s es (suc k)) → Told i f c s es (suc k) ts
   moves : {k : ℕ} {ts : List Step} {t : Step} → Told i f c s es k ts → MovedBy i f c s es k t → Told i f c s es (suc k) (ts ++ (t ∷ []))
 
 abbrev pub TrailTells : Type 0
@@ -130,13 +124,13 @@ TrailTells = (i : ℕ) (f : Machine) (c : Config) (s : Simple) (es : List Event)
 -- the steps join up: each begins where the one before ended
 abbrev pub Joins : Place → List Step → Place → Type 0
 Joins from [] to = from ≡ to
-Joins from (t ∷ ts) to = (t .from ≡ from) × Joins (t .to) ts to
+Joins from (t ∷ ts) to = (t.from ≡ from) × Joins t.to ts to
 
 -- from the block's place at the start to its place at the end
 abbrev pub TrailJoins : Type 0
 TrailJoins =
     (i : ℕ) (f : Machine) (c : Config) (s : Simple) (es : List Event)
-    → Joins (placeOf i s) (trail i f c s es) (placeOf i (simpleAt f c s es (length es)))
+    → Joins (place_of i s) (trail i f c s es) (place_of i (simple_at f c s es (length es)))
 
 -- ---- from a fresh page
 
@@ -145,11 +139,11 @@ pub data Way (w : ℕ) : Place → Place → Type 0 where
   inserted : Way w caller (own w)
   read : Way w (own w) caller
   appended : Way w (got w) (own w)
-  inHand : Way w caller (hand w)
-  pushedShared : Way w (hand w) shared
-  pushedTagged : Way w (hand w) tagged
-  takenShared : Way w shared (got w)
-  takenTagged : Way w tagged (got w)
+  in_hand : Way w caller (hand w)
+  pushed_shared : Way w (hand w) shared
+  pushed_tagged : Way w (hand w) tagged
+  taken_shared : Way w shared (got w)
+  taken_tagged : Way w tagged (got w)
 
 -- an event that a worker did: a request or a move, never a store, on or off
 abbrev pub Done : ℕ → Event → Type 0
@@ -161,27 +155,27 @@ Done w (store k v) = ⊥
 
 -- the blocks of a list on the page, walked from its head
 abbrev pub walked : Config → ℕ → List ℕ
-walked c h = walkOf (lentOf c) h .blocks
+walked c h = (walk_of (lent_of c) h).blocks
 
 -- where the block is on the page, and its order there: its bit is clear with its caller, and it is read after so many
 -- others of the list that the head leads over
 abbrev pub OnPage : ℕ → Config → Place → ℕ → Type 0
-OnPage i c caller k = (bitAt (c .bits) i ≡ 0) × (k ≡ 0)
-OnPage i c shared k = ReadAfter k i (walked c (c .state .shared))
-OnPage i c tagged k = ReadAfter k i (walked c (addressOf (c .state .tagged)))
-OnPage i c (own w) k = (w < c .state .w) × ReadAfter k i (walked c (workerOf c w .own))
-OnPage i c (got w) k = (w < c .state .w) × ReadAfter k i (walked c (workerOf c w .got))
+OnPage i c caller k = (bit_at c.bits i ≡ 0) × (k ≡ 0)
+OnPage i c shared k = ReadAfter k i (walked c c.state.shared)
+OnPage i c tagged k = ReadAfter k i (walked c (address_of c.state.tagged))
+OnPage i c (own w) k = (w < c.state.w) × ReadAfter k i (walked c (worker_of c w).own)
+OnPage i c (got w) k = (w < c.state.w) × ReadAfter k i (walked c (worker_of c w).got)
 OnPage i c (hand w) k =
-    (w < c .state .w) × (workerOf c w .hand ≡ i) × ((workerOf c w .operation ≡ 6) ⊎ (workerOf c w .operation ≡ 8)) × (k ≡ 0)
+    (w < c.state.w) × ((worker_of c w).hand ≡ i) × (((worker_of c w).operation ≡ 6) ⊎ ((worker_of c w).operation ≡ 8)) × (k ≡ 0)
 
 -- a step of a trail from a fresh page: its worker did the event, the way is one of that worker's, and both places
 -- with their orders are those of the page
 pub record Truly (i : ℕ) (c : Config) (es : List Event) (t : Step) : Type 0 where
-  pub within : t .position < length es
-  pub done : Done (t .worker) (eventAt es (t .position))
-  pub way : Way (t .worker) (t .from) (t .to)
-  pub left : OnPage i (configAt step c es (t .position)) (t .from) (t .left)
-  pub arrived : OnPage i (configAt step c es (suc (t .position))) (t .to) (t .arrived)
+  pub within : t.position < length es
+  pub done : Done t.worker (event_at es t.position)
+  pub way : Way t.worker t.from t.to
+  pub left : OnPage i (config_at step c es t.position) t.from t.left
+  pub arrived : OnPage i (config_at step c es (suc t.position)) t.to t.arrived
 
 abbrev pub All : (Step → Type 0) → List Step → Type 0
 All P [] = Unit {0}

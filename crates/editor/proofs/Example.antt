@@ -1,42 +1,42 @@
 -- The whole case of document 01 and two short reads, from bytes to the text that is printed, computed on the
 -- definitions. Assumes nothing.
 use Prim.Native.Nat.{ℕ}
-use mathlib.Core.Path.{_≡_, refl}
+use mathlib.Core.Path.{◌≡◌, refl}
 use mathlib.Core.Bool.{true, false}
-use mathlib.Core.List.{List, [], _∷_}
-use Rattle·answers.specs.Rows.{all, first}
-use Rattle·words.specs.Digits.{digit, putDigit}
-use Rattle·bitmap.specs.Bitmap.{bitAt, bitPut, anyFrom, putRun}
-use Rattle·page.specs.Page.{fitsB, workersB, blockB, runB, goodB, soundB}
-use Rattle·page.specs.Walk.{walkFrom, lastOf}
-use Rattle·page.specs.Sequences.{upFrom}
-use Rattle·lists.specs.Own.{insertAct, popAct, appendAct, extendAct, releaseAct, emptyAct}
-use Rattle·operations.specs.Operations.{stagedB, pushesB, takesB, onSharedB, onTaggedB, wordOf, offB, fullB, firstStage, stagesOf, oneOf}
-use Rattle·staged.specs.Workers.{begun}
-use Rattle·staged.specs.Start.{startFitsB, startAct}
-use Rattle·staged.specs.Damage.{handBad, tagOnShared, seenBad, headBad, sightingsBad, tagBad, any, damagedB}
-use Rattle·staged.specs.Moves.{loadAsk, loadAwait, loadAct, writeAct, newWord, exchangeValue, failsB, exchangeAct, swapAct, maskAct, moveAct}
-use Rattle·machine.specs.Config.{rulesB, freshOf}
-use Rattle·machine.specs.Table.{argumentsFitB, anyNamed, ownUnsound, linkUnsound, walkBroken, requestDamagedB, requestRows, moveRows, anyBusy, onRows, offRows}
-use Rattle·machine.specs.Requests.{atOnceAct, requestAct, requestOf}
-use Rattle·machine.specs.Moves.{moveOf}
-use Rattle·machine.specs.Switch.{switchOnOf, switchOffOf}
-use Rattle·machine.specs.Events.{eventOf, eventsRefusal, eventsOf}
-use Rattle·machine.specs.Events as events
-use Rattle·records.specs.Records.{isMark, kindOf, decodeAt}
-use Rattle·records.specs.Fill.{next, fillIn}
+use mathlib.Core.List.{List, [], ◌∷◌}
+use Rattle.answers.specs.Rows.{all, first}
+use Rattle.words.specs.Digits.{digit, put_digit}
+use Rattle.bitmap.specs.Bitmap.{bit_at, bit_put, any_from, put_run}
+use Rattle.page.specs.Page.{fits_b, workers_b, block_b, run_b, good_b, sound_b}
+use Rattle.page.specs.Walk.{walk_from, last_of}
+use Rattle.page.specs.Sequences.{up_from}
+use Rattle.lists.specs.Own.{insert_act, pop_act, append_act, extend_act, release_act, empty_act}
+use Rattle.operations.specs.Operations.{staged_b, pushes_b, takes_b, on_shared_b, on_tagged_b, word_of, off_b, full_b, first_stage, stages_of, one_of}
+use Rattle.staged.specs.Workers.{begun}
+use Rattle.staged.specs.Start.{start_fits_b, start_act}
+use Rattle.staged.specs.Damage.{hand_bad, tag_on_shared, seen_bad, head_bad, sightings_bad, tag_bad, any, damaged_b}
+use Rattle.staged.specs.Moves.{load_ask, load_await, load_act, write_act, new_word, exchange_value, fails_b, exchange_act, swap_act, mask_act, move_act}
+use Rattle.machine.specs.Config.{rules_b, fresh_of}
+use Rattle.machine.specs.Table.{arguments_fit_b, any_named, own_unsound, link_unsound, walk_broken, request_damaged_b, request_rows, move_rows, any_busy, on_rows, off_rows}
+use Rattle.machine.specs.Requests.{at_once_act, request_act, request_of}
+use Rattle.machine.specs.Moves.{move_of}
+use Rattle.machine.specs.Switch.{switch_on_of, switch_off_of}
+use Rattle.machine.specs.Events.{event_of, events_refusal, events_of}
+use Rattle.machine.specs.Events as events
+use Rattle.records.specs.Records.{is_mark, kind_of, decode_at}
+use Rattle.records.specs.Fill.{next, fill_in}
 use lib.ListN.{take, replicate}
-use Rattle·records.proofs.Example.{wholeCase}
-use Rattle·editor·specs.specs.Text.{decimal, linesText}
-use Rattle·editor·specs.specs.Chunk.{Response, respondOf}
+use Rattle.records.proofs.Example.{whole_case}
+use Rattle.editor.specs.Text.{decimal, lines_text}
+use Rattle.editor.specs.Chunk.{Response, respond_of}
 
 -- what is made of some bytes, read into room for so many, on a fresh page (n = 63, bw = 4, W = 8)
 abbrev made : List ℕ → ℕ → Response
-made bytes room = respondOf (freshOf 63 4 8 (replicate 256 0) (replicate 1 0) .after) bytes room (replicate 80 0) (replicate 30 0) []
+made bytes room = respond_of (fresh_of 63 4 8 (replicate 256 0) (replicate 1 0)).after bytes room (replicate 80 0) (replicate 30 0) []
 
 -- the fifteen lines
-abbrev wholeLines : List ℕ
-wholeLines =
+abbrev whole_lines : List ℕ
+whole_lines =
     48 ∷ 32 ∷ 48 ∷ 10
     ∷ 48 ∷ 32 ∷ 48 ∷ 10
     ∷ 49 ∷ 32 ∷ 48 ∷ 10
@@ -53,16 +53,16 @@ wholeLines =
     ∷ 48 ∷ 32 ∷ 49 ∷ 10
     ∷ 48 ∷ 32 ∷ 57 ∷ 10 ∷ []
 
-pub whole-printed : (made wholeCase 8192 .out ≡ wholeLines) × (made wholeCase 8192 .more ≡ false)
-unfolding all first digit putDigit bitAt bitPut anyFrom putRun fitsB workersB blockB runB goodB soundB walkFrom lastOf upFrom insertAct popAct appendAct extendAct releaseAct emptyAct stagedB pushesB takesB onSharedB onTaggedB wordOf offB fullB firstStage stagesOf oneOf begun startFitsB startAct handBad tagOnShared seenBad headBad sightingsBad tagBad any damagedB loadAsk loadAwait loadAct writeAct newWord exchangeValue failsB exchangeAct swapAct maskAct moveAct rulesB argumentsFitB anyNamed ownUnsound linkUnsound walkBroken requestDamagedB requestRows moveRows anyBusy onRows offRows atOnceAct requestAct requestOf moveOf switchOnOf switchOffOf freshOf isMark kindOf decodeAt next fillIn eventOf events.runOf eventsRefusal eventsOf decimal linesText
+pub whole-printed : ((made whole_case 8192).out ≡ whole_lines) × ((made whole_case 8192).more ≡ false)
+unfolding all first digit put_digit bit_at bit_put any_from put_run fits_b workers_b block_b run_b good_b sound_b walk_from last_of up_from insert_act pop_act append_act extend_act release_act empty_act staged_b pushes_b takes_b on_shared_b on_tagged_b word_of off_b full_b first_stage stages_of one_of begun start_fits_b start_act hand_bad tag_on_shared seen_bad head_bad sightings_bad tag_bad any damaged_b load_ask load_await load_act write_act new_word exchange_value fails_b exchange_act swap_act mask_act move_act rules_b arguments_fit_b any_named own_unsound link_unsound walk_broken request_damaged_b request_rows move_rows any_busy on_rows off_rows at_once_act request_act request_of move_of switch_on_of switch_off_of fresh_of is_mark kind_of decode_at next fill_in event_of events.run_of events_refusal events_of decimal lines_text
 whole-printed = (refl, refl)
 
 -- a cut record: the line of the one before it, then `bad`, and no more is read
-pub cut-printed : (made (take 15 wholeCase) 15 .out ≡ 48 ∷ 32 ∷ 48 ∷ 10 ∷ 98 ∷ 97 ∷ 100 ∷ 10 ∷ []) × (made (take 15 wholeCase) 15 .more ≡ false)
-unfolding all first digit putDigit bitAt bitPut anyFrom putRun fitsB workersB blockB runB goodB soundB walkFrom lastOf upFrom insertAct popAct appendAct extendAct releaseAct emptyAct stagedB pushesB takesB onSharedB onTaggedB wordOf offB fullB firstStage stagesOf oneOf begun startFitsB startAct handBad tagOnShared seenBad headBad sightingsBad tagBad any damagedB loadAsk loadAwait loadAct writeAct newWord exchangeValue failsB exchangeAct swapAct maskAct moveAct rulesB argumentsFitB anyNamed ownUnsound linkUnsound walkBroken requestDamagedB requestRows moveRows anyBusy onRows offRows atOnceAct requestAct requestOf moveOf switchOnOf switchOffOf freshOf isMark kindOf decodeAt next fillIn eventOf events.runOf eventsRefusal eventsOf decimal linesText
+pub cut-printed : ((made (take 15 whole_case) 15).out ≡ 48 ∷ 32 ∷ 48 ∷ 10 ∷ 98 ∷ 97 ∷ 100 ∷ 10 ∷ []) × ((made (take 15 whole_case) 15).more ≡ false)
+unfolding all first digit put_digit bit_at bit_put any_from put_run fits_b workers_b block_b run_b good_b sound_b walk_from last_of up_from insert_act pop_act append_act extend_act release_act empty_act staged_b pushes_b takes_b on_shared_b on_tagged_b word_of off_b full_b first_stage stages_of one_of begun start_fits_b start_act hand_bad tag_on_shared seen_bad head_bad sightings_bad tag_bad any damaged_b load_ask load_await load_act write_act new_word exchange_value fails_b exchange_act swap_act mask_act move_act rules_b arguments_fit_b any_named own_unsound link_unsound walk_broken request_damaged_b request_rows move_rows any_busy on_rows off_rows at_once_act request_act request_of move_of switch_on_of switch_off_of fresh_of is_mark kind_of decode_at next fill_in event_of events.run_of events_refusal events_of decimal lines_text
 cut-printed = (refl, refl)
 
 -- a full read of whole records: more is read
-pub full-goes-on : (made (take 8 wholeCase) 8 .out ≡ 48 ∷ 32 ∷ 48 ∷ 10 ∷ []) × (made (take 8 wholeCase) 8 .more ≡ true)
-unfolding all first digit putDigit bitAt bitPut anyFrom putRun fitsB workersB blockB runB goodB soundB walkFrom lastOf upFrom insertAct popAct appendAct extendAct releaseAct emptyAct stagedB pushesB takesB onSharedB onTaggedB wordOf offB fullB firstStage stagesOf oneOf begun startFitsB startAct handBad tagOnShared seenBad headBad sightingsBad tagBad any damagedB loadAsk loadAwait loadAct writeAct newWord exchangeValue failsB exchangeAct swapAct maskAct moveAct rulesB argumentsFitB anyNamed ownUnsound linkUnsound walkBroken requestDamagedB requestRows moveRows anyBusy onRows offRows atOnceAct requestAct requestOf moveOf switchOnOf switchOffOf freshOf isMark kindOf decodeAt next fillIn eventOf events.runOf eventsRefusal eventsOf decimal linesText
+pub full-goes-on : ((made (take 8 whole_case) 8).out ≡ 48 ∷ 32 ∷ 48 ∷ 10 ∷ []) × ((made (take 8 whole_case) 8).more ≡ true)
+unfolding all first digit put_digit bit_at bit_put any_from put_run fits_b workers_b block_b run_b good_b sound_b walk_from last_of up_from insert_act pop_act append_act extend_act release_act empty_act staged_b pushes_b takes_b on_shared_b on_tagged_b word_of off_b full_b first_stage stages_of one_of begun start_fits_b start_act hand_bad tag_on_shared seen_bad head_bad sightings_bad tag_bad any damaged_b load_ask load_await load_act write_act new_word exchange_value fails_b exchange_act swap_act mask_act move_act rules_b arguments_fit_b any_named own_unsound link_unsound walk_broken request_damaged_b request_rows move_rows any_busy on_rows off_rows at_once_act request_act request_of move_of switch_on_of switch_off_of fresh_of is_mark kind_of decode_at next fill_in event_of events.run_of events_refusal events_of decimal lines_text
 full-goes-on = (refl, refl)

@@ -1,40 +1,35 @@
 -- What the program prints: a line for each answer, number, space, value; `bad` (document 01, Checked by hand).
-use Prim.Native.Nat.{ℕ, zero, suc, _+_, _*_, _/_, _%_, _≤_}
-use mathlib.Core.Path.{_≡_}
-use mathlib.Core.Bool.{Bool, cond}
-use mathlib.Core.List.{List, [], _∷_, _++_}
-use lib.Dec.{ltb}
-use lib.ListN.{length, take, drop, getD}
+use Rattle.std.specs.Prelude.{ℕ, zero, suc, ◌+◌, ◌*◌, ◌/◌, ◌%◌, ◌≤◌, ◌≡◌, Bool, cond, List, [], ◌∷◌, ◌++◌, ltb, length, take, drop, get_or}
 
 -- a digit's byte
-abbrev pub digitByte : ℕ → ℕ
-digitByte d = 48 + d
+abbrev pub digit_byte : ℕ → ℕ
+digit_byte d = 48 + d
 
 -- the decimal digits of a number, at most so many, the first one not 0 unless the number is
 unfoldable pub decimal : ℕ → ℕ → List ℕ
 decimal zero n = []
-decimal (suc most) n = cond (ltb n 10) (digitByte n ∷ []) (decimal most (n / 10) ++ (digitByte (n % 10) ∷ []))
+decimal (suc most) n = cond (ltb n 10) (digit_byte n ∷ []) (decimal most (n / 10) ++ (digit_byte (n % 10) ∷ []))
 
 -- a number of 64 bits has at most 20 digits
-abbrev pub numberText : ℕ → List ℕ
-numberText n = decimal 20 n
+abbrev pub number_text : ℕ → List ℕ
+number_text n = decimal 20 n
 
 -- number, space, value, line's end
-abbrev pub lineText : ℕ → ℕ → List ℕ
-lineText number v = numberText number ++ (32 ∷ []) ++ numberText v ++ (10 ∷ [])
+abbrev pub line_text : ℕ → ℕ → List ℕ
+line_text number v = number_text number ++ (32 ∷ []) ++ number_text v ++ (10 ∷ [])
 
 -- the lines of the first so many answers, two words each
-unfoldable pub linesText : List ℕ → ℕ → List ℕ
-linesText answers zero = []
-linesText answers (suc k) = linesText answers k ++ lineText (getD answers (2 * k) 0) (getD answers (2 * k + 1) 0)
+unfoldable pub lines_text : List ℕ → ℕ → List ℕ
+lines_text answers zero = []
+lines_text answers (suc k) = lines_text answers k ++ line_text (get_or answers (2 * k) 0) (get_or answers (2 * k + 1) 0)
 
 -- `bad` and a line's end
-abbrev pub badText : List ℕ
-badText = 98 ∷ 97 ∷ 100 ∷ 10 ∷ []
+abbrev pub bad_text : List ℕ
+bad_text = 98 ∷ 97 ∷ 100 ∷ 10 ∷ []
 
 -- the lines of the first so many answers, and `bad` unless all was records
-abbrev pub chunkText : List ℕ → ℕ → Bool → List ℕ
-chunkText answers k whole = linesText answers k ++ cond whole [] badText
+abbrev pub chunk_text : List ℕ → ℕ → Bool → List ℕ
+chunk_text answers k whole = lines_text answers k ++ cond whole [] bad_text
 
 -- a text stands from a place on, up to another; what stood before it and behind it stands yet, and the room is as it
 -- was

@@ -1,20 +1,15 @@
 // The program of document 01: it reads records, eight bytes each, and prints a line for each, or `bad` at an
 // unknown mark or a cut record. It reads and writes here; decoding, the machine and the text are calls.
-ghost use mathlib.Core.Path.{_≡_};
-ghost use mathlib.Core.Bool.{_&&_};
-ghost use Prim.Native.Nat.{_*_, _≤_};
-ghost use lib.Dec.{eqb};
-ghost use lib.ListN.{length};
-ghost use Rattle·machine.specs.Config.{config};
-ghost use Rattle·editor·specs.specs.Chunk.{Room, performed, performOf, response, respondOf};
+#![tactic(auto)]
+
+ghost use Rattle.std.specs.Prelude.{◌≡◌, ◌&&◌, ◌*◌, ◌≤◌, eqb, length};
+ghost use Rattle.machine.specs.Config.{config};
+ghost use Rattle.editor.specs.Chunk.{Room, performed, perform_of, response, respond_of};
 
 mod text;
 
-use events::ANSWER_WORDS;
-use events::EVENT_WORDS;
-use libc::STDERR_FILENO;
-use libc::STDIN_FILENO;
-use libc::STDOUT_FILENO;
+use events::{ANSWER_WORDS, EVENT_WORDS};
+use libc::{STDERR_FILENO, STDIN_FILENO, STDOUT_FILENO};
 use machine::State;
 
 // The page: n blocks of bw words, W workers.
@@ -44,6 +39,7 @@ const TEXT: usize = text::LINE * RECORDS + text::BAD;
 const READS: u64 = 1 << 60;
 
 // What came of some bytes: the state, how many records were answered, and why no more.
+#[derive(Drop)]
 struct Performed {
     state: State,
     records: usize,
@@ -51,6 +47,7 @@ struct Performed {
 }
 
 // What was made of some bytes: the state, the end of the text, and whether more is to be read.
+#[derive(Drop)]
 struct Responded {
     state: State,
     end: usize,
@@ -58,6 +55,7 @@ struct Responded {
 }
 
 // The state after a turn, and whether another follows.
+#[derive(Drop)]
 struct Turned {
     state: State,
     again: bool,
@@ -92,7 +90,7 @@ fn run(
     answers: &mut [u64],
     out: &mut [u8],
 )
-    requires { ⌜ Room (now bytes) (now answers) (now out) ⌝ }
+    requires { Room bytes.old answers.old out.old }
 {
     let mut s = state;
     let mut again = true;
@@ -123,7 +121,7 @@ fn turn(
     answers: &mut [u64],
     out: &mut [u8],
 ) -> Turned
-    requires { ⌜ Room (now bytes) (now answers) (now out) ⌝ }
+    requires { Room bytes.old answers.old out.old }
 {
     let got = io::read_full(STDIN_FILENO, &mut *bytes);
     let room = bytes.len();
@@ -158,9 +156,9 @@ fn respond(
     answers: &mut [u64],
     out: &mut [u8],
 ) -> Responded
-    requires { ⌜ Room (now bytes) (now answers) (now out) ⌝ }
-    ensures { λ r. ⌜ response (r .end) (r .more) (config (r .state) (now (page .exit)) (now (bits .exit))) (now (events .exit)) (now (answers .exit)) (now (out .exit)) ≡ respondOf (config state (now (page .entry)) (now (bits .entry))) (now (bytes .entry)) room (now (events .entry)) (now (answers .entry)) (now (out .entry)) ⌝ }
-    ensures { λ r. ⌜ r .end ≤ length (now (out .exit)) ⌝ }
+    requires { Room bytes.now answers.old out.old }
+    ensures out_after { response result.end result.more (config result.state page.new bits.new) events.new answers.new out.new ≡ respond_of (config state page.old bits.old) bytes.now room events.old answers.old out.old }
+    ensures end_in_bounds { result.end ≤ length out.new }
 {
     let r = perform(state, page, bits, bytes, events, &mut *answers);
     let whole = r.stop == records::ENDED;
@@ -184,7 +182,7 @@ fn put(text: &[u8]) -> bool {
 
 // Whether more is to be read: all bytes were records, and they filled their room.
 fn goes_on(whole: bool, got: usize, room: usize) -> bool
-    ensures { λ r. ⌜ r ≡ (whole && eqb got room) ⌝ }
+    ensures { result ≡ (whole && eqb got room) }
 {
     whole && got == room
 }
@@ -198,8 +196,8 @@ fn perform(
     events: &mut [u64],
     answers: &mut [u64],
 ) -> Performed
-    ensures { λ r. ⌜ performed (r .records) (r .stop) (config (r .state) (now (page .exit)) (now (bits .exit))) (now (events .exit)) (now (answers .exit)) ≡ performOf (config state (now (page .entry)) (now (bits .entry))) (now (bytes .entry)) (now (events .entry)) (now (answers .entry)) ⌝ }
-    ensures { λ r. ⌜ 8 * r .records ≤ length (now (bytes .entry)) ⌝ }
+    ensures answers_after { performed result.records result.stop (config result.state page.new bits.new) events.new answers.new ≡ perform_of (config state page.old bits.old) bytes.now events.old answers.old }
+    ensures records_in_bounds { 8 * result.records ≤ length bytes.now }
 {
     let filled = records::fill(bytes, &mut *events);
     let count = filled.records as usize;

@@ -1,7 +1,6 @@
 // Answers as text: a line for each, number, space, value. What a function writes is a definition of `specs/Text`.
-ghost use Prim.Native.Nat.{_+_, _*_, _≤_};
-ghost use lib.ListN.{length};
-ghost use Rattle·editor·specs.specs.Text.{Wrote, numberText, lineText, linesText, badText, chunkText};
+ghost use Rattle.std.specs.Prelude.{◌+◌, ◌*◌, ◌≤◌, length};
+ghost use Rattle.editor.specs.Text.{Wrote, number_text, line_text, lines_text, bad_text, chunk_text};
 
 // The most digits of a number of 64 bits.
 const DIGITS: usize = 20;
@@ -14,8 +13,8 @@ pub const BAD: usize = 4;
 
 // Copies a text, from a place on.
 fn put(text: &[u8], out: &mut [u8], at: usize)
-    requires { ⌜ at + length (now text) ≤ length (now out) ⌝ }
-    ensures { λ _. ⌜ Wrote (now (out .entry)) at (now (text .entry)) (now (out .exit)) (at + length (now (text .entry))) ⌝ }
+    requires { at + length text.now ≤ length out.old }
+    ensures { Wrote out.old at text.now out.new (at + length text.now) }
 {
     let mut i = 0;
     while i < text.len() {
@@ -26,9 +25,9 @@ fn put(text: &[u8], out: &mut [u8], at: usize)
 
 // Writes a number's decimal digits from a place on, and answers the place behind them.
 fn number(n: u64, out: &mut [u8], at: usize) -> usize
-    requires { ⌜ at + 20 ≤ length (now out) ⌝ }
-    ensures { λ r. ⌜ Wrote (now (out .entry)) at (numberText n) (now (out .exit)) r ⌝ }
-    ensures { λ r. ⌜ r ≤ at + 20 ⌝ }
+    requires { at + 20 ≤ length out.old }
+    ensures wrote { Wrote out.old at (number_text n) out.new result }
+    ensures upper_bound { result ≤ at + 20 }
 {
     let mut digits = [0u8; DIGITS];
     let count = io::decimal(n, &mut digits);
@@ -38,9 +37,9 @@ fn number(n: u64, out: &mut [u8], at: usize) -> usize
 
 // Writes an answer's line from a place on, and answers the place behind it.
 fn line(first: u64, value: u64, out: &mut [u8], at: usize) -> usize
-    requires { ⌜ at + 42 ≤ length (now out) ⌝ }
-    ensures { λ r. ⌜ Wrote (now (out .entry)) at (lineText first value) (now (out .exit)) r ⌝ }
-    ensures { λ r. ⌜ r ≤ at + 42 ⌝ }
+    requires { at + 42 ≤ length out.old }
+    ensures wrote { Wrote out.old at (line_text first value) out.new result }
+    ensures upper_bound { result ≤ at + 42 }
 {
     let space = number(first, &mut *out, at);
     out[space] = b' ';
@@ -51,9 +50,9 @@ fn line(first: u64, value: u64, out: &mut [u8], at: usize) -> usize
 
 // Writes the lines of the first count answers from the start on, and answers the place behind them.
 fn lines(answers: &[u64], count: usize, out: &mut [u8]) -> usize
-    requires { ⌜ (2 * count ≤ length (now answers)) × (42 * count ≤ length (now out)) ⌝ }
-    ensures { λ r. ⌜ Wrote (now (out .entry)) 0 (linesText (now (answers .entry)) count) (now (out .exit)) r ⌝ }
-    ensures { λ r. ⌜ r ≤ 42 * count ⌝ }
+    requires { (2 * count ≤ length answers.now) × (42 * count ≤ length out.old) }
+    ensures wrote { Wrote out.old 0 (lines_text answers.now count) out.new result }
+    ensures upper_bound { result ≤ 42 * count }
 {
     let mut at = 0;
     let mut k = 0;
@@ -66,8 +65,8 @@ fn lines(answers: &[u64], count: usize, out: &mut [u8]) -> usize
 
 // Writes `bad` and its line's end from a place on, and answers the place behind them.
 fn bad(out: &mut [u8], at: usize) -> usize
-    requires { ⌜ at + 4 ≤ length (now out) ⌝ }
-    ensures { λ r. ⌜ Wrote (now (out .entry)) at badText (now (out .exit)) r ⌝ }
+    requires { at + 4 ≤ length out.old }
+    ensures { Wrote out.old at bad_text out.new result }
 {
     put(b"bad\n", out, at);
     at + BAD
@@ -76,8 +75,8 @@ fn bad(out: &mut [u8], at: usize) -> usize
 // Writes a chunk's text from the start on: the lines of the first count answers, then `bad` unless all its bytes were
 // records. Answers the place behind it.
 pub fn chunk(answers: &[u64], count: usize, whole: bool, out: &mut [u8]) -> usize
-    requires { ⌜ (2 * count ≤ length (now answers)) × (42 * count + 4 ≤ length (now out)) ⌝ }
-    ensures { λ r. ⌜ Wrote (now (out .entry)) 0 (chunkText (now (answers .entry)) count whole) (now (out .exit)) r ⌝ }
+    requires { (2 * count ≤ length answers.now) × (42 * count + 4 ≤ length out.old) }
+    ensures { Wrote out.old 0 (chunk_text answers.now count whole) out.new result }
 {
     let end = lines(answers, count, &mut *out);
     if whole {

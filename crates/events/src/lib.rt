@@ -1,27 +1,17 @@
 // A run of events in a lent slice, with the state in a local that is changed in place. No public function has a
 // requires.
-ghost use mathlib.Core.Bool.{true};
-ghost use mathlib.Core.Path.{_≡_};
-ghost use Prim.Native.Nat.{_+_, _*_, _/_, _<_, _≤_};
-ghost use lib.ListN.{length, set};
-ghost use Rattle·machine.specs.Config.{config, rulesB};
-ghost use Rattle·machine.specs.Events.{eventWords, answerWords, ran, cameRun, runOf, eventsOf};
-ghost use Rattle·events·specs.specs.Parts.{eventIn, slotOf};
-use crate::happen::Event;
-use crate::happen::act;
-use crate::happen::by_worker;
-use crate::happen::happen;
-use crate::happen::in_common;
-use crate::happen::is_quick;
-use crate::happen::turn_switch;
-use answers::BAD_PAGE;
-use answers::DONE;
-use answers::NO_SUCH;
-use answers::NONE_LEFT;
-use machine::Reply;
-use machine::State;
+#![tactic(auto)]
+
+ghost use Rattle.std.specs.Prelude.{true, ◌≡◌, ◌+◌, ◌*◌, ◌/◌, ◌<◌, ◌≤◌, length, set};
+ghost use Rattle.machine.specs.Config.{config, rules_b};
+ghost use Rattle.machine.specs.Events.{event_words, answer_words, ran, came_run, run_of, events_of};
+ghost use Rattle.events.specs.Parts.{event_in, slot_of};
+
+use crate::happen::{Event, act, by_worker, happen, in_common, is_quick, turn_switch};
+use answers::{BAD_PAGE, DONE, NO_SUCH, NONE_LEFT};
 use machine::ask::with_heads;
 use machine::guards::refuse;
+use machine::{Reply, State};
 use readers::rules;
 
 mod happen;
@@ -43,7 +33,7 @@ pub const ANSWER_WORDS: usize = 2;
 
 // The place of a worker's record; of one that there is not, the first.
 fn slot(worker: u64, workers: u64) -> usize
-    ensures { λ r. ⌜ r ≡ slotOf worker workers ⌝ }
+    ensures { result ≡ slot_of worker workers }
 {
     if worker < workers {
         return worker as usize;
@@ -53,8 +43,8 @@ fn slot(worker: u64, workers: u64) -> usize
 
 // Writes answer k.
 fn put(answers: &mut [u64], k: usize, number: u64, value: u64)
-    requires { ⌜ k * answerWords + 1 < length (now answers) ⌝ }
-    ensures { λ r. ⌜ now (answers .exit) ≡ set (set (now (answers .entry)) (k * answerWords) number) (k * answerWords + 1) value ⌝ }
+    requires { k * answer_words + 1 < length answers.old }
+    ensures { answers.new ≡ set (set answers.old (k * answer_words) number) (k * answer_words + 1) value }
 {
     answers[k * ANSWER_WORDS] = number;
     answers[k * ANSWER_WORDS + 1] = value;
@@ -62,8 +52,8 @@ fn put(answers: &mut [u64], k: usize, number: u64, value: u64)
 
 // Reads event k.
 fn read(events: &[u64], k: usize) -> Event
-    requires { ⌜ k * eventWords + 4 < length (now events) ⌝ }
-    ensures { λ r. ⌜ r ≡ eventIn (now (events .entry)) k ⌝ }
+    requires { k * event_words + 4 < length events.now }
+    ensures { result ≡ event_in events.now k }
 {
     let at = k * EVENT_WORDS;
     Event {
@@ -83,8 +73,8 @@ fn run(
     events: &[u64],
     answers: &mut [u64],
 ) -> State
-    requires { ⌜ (rulesB (config state (now page) (now bits)) ≡ true) × (length (now events) / eventWords * answerWords ≤ length (now answers)) ⌝ }
-    ensures { λ r. ⌜ ran (config r (now (page .exit)) (now (bits .exit))) (now (answers .exit)) ≡ runOf (now (events .entry)) (length (now (events .entry)) / eventWords) (ran (config state (now (page .entry)) (now (bits .entry))) (now (answers .entry))) ⌝ }
+    requires { (rules_b (config state page.old bits.old) ≡ true) × (length events.now / event_words * answer_words ≤ length answers.old) }
+    ensures { ran (config result page.new bits.new) answers.new ≡ run_of events.now (length events.now / event_words) (ran (config state page.old bits.old) answers.old) }
 {
     let count = events.len() / EVENT_WORDS;
     let mut s = state;
@@ -129,7 +119,7 @@ pub fn events(
     events: &[u64],
     answers: &mut [u64],
 ) -> Reply
-    ensures { λ r. ⌜ cameRun r (now (page .exit)) (now (bits .exit)) (now (answers .exit)) ≡ eventsOf (ran (config state (now (page .entry)) (now (bits .entry))) (now (answers .entry))) (now (events .entry)) ⌝ }
+    ensures { came_run result page.new bits.new answers.new ≡ events_of (ran (config state page.old bits.old) answers.old) events.now }
 {
     if !rules(state.n, state.bw, state.w, page.len(), bits.len()) {
         return refuse(BAD_PAGE, state);

@@ -1,11 +1,10 @@
 // Worked examples of words and bits, run and proved: document 01's P2 and P3, refusals, and the edges of a bitmap.
-use bitmap::clear;
+#![tactic(auto)]
+
 use bitmap::count::listed_count;
 use bitmap::first::first_unlisted;
-use bitmap::is_set;
-use bitmap::runs::any_set;
-use bitmap::runs::set_run;
-use bitmap::set;
+use bitmap::runs::{any_set, set_run};
+use bitmap::{clear, is_set, set};
 use check::expect;
 
 fn main() {

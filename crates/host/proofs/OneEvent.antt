@@ -1,41 +1,41 @@
 -- A request as a run of one event. Assumes nothing.
 use Prim.Native.Nat.{ℕ}
-use mathlib.Core.Path.{_≡_, refl, sym, ap, _∙_}
+use mathlib.Core.Path.{◌≡◌, refl, sym, ap, ◌∙◌}
 use mathlib.Core.Bool.{Bool, true, false, cond}
-use mathlib.Core.List.{List, [], _∷_}
-use Rattle·answers.specs.Numbers.{done, badPage}
-use Rattle·answers.specs.Rows.{first, Outcome, outcome, refused}
-use Rattle·machine.specs.Config.{Config, rulesB}
-use Rattle·machine.specs.Table.{requestRows}
-use Rattle·machine.specs.Requests.{requestOf}
-use Rattle·machine.specs.Events.{aRequest, eventOf, Run, ran, runOf, eventsRefusal, eventsOf}
+use mathlib.Core.List.{List, [], ◌∷◌}
+use Rattle.answers.specs.Numbers.{done, bad_page}
+use Rattle.answers.specs.Rows.{first, Outcome, outcome, refused}
+use Rattle.machine.specs.Config.{Config, rules_b}
+use Rattle.machine.specs.Table.{request_rows}
+use Rattle.machine.specs.Requests.{request_of}
+use Rattle.machine.specs.Events.{a_request, event_of, Run, ran, run_of, events_refusal, events_of}
 
 module _ (c : Config) (w code a b : ℕ) where
   -- where the page rules are broken the request is refused by 2
-  pub request-refused : rulesB c ≡ false → requestOf c w code a b ≡ refused badPage c
-  unfolding requestOf requestRows first
+  pub request-refused : rules_b c ≡ false → request_of c w code a b ≡ refused bad_page c
+  unfolding request_of request_rows first
   request-refused e = simp e
 
   -- the event, and the run with the request's answer written
   abbrev asked : List ℕ
-  asked = aRequest ∷ w ∷ code ∷ a ∷ b ∷ []
+  asked = a_request ∷ w ∷ code ∷ a ∷ b ∷ []
 
   abbrev answered : Outcome Config → Run
-  answered o = ran (o .after) (o .number ∷ o .value ∷ [])
+  answered o = ran o.after (o.number ∷ o.value ∷ [])
 
   -- refused by 2 where the page rules are broken, and else done, with the request's answer
-  pub one-event : (x y : ℕ) → eventsOf (ran c (x ∷ y ∷ [])) asked ≡ cond (rulesB c) (outcome done 1 (answered (requestOf c w code a b))) (refused badPage (ran c (x ∷ y ∷ [])))
-  unfolding eventsOf eventsRefusal first runOf eventOf
-  one-event x y = go (rulesB c) refl
+  pub one-event : (x y : ℕ) → events_of (ran c (x ∷ y ∷ [])) asked ≡ cond (rules_b c) (outcome done 1 (answered (request_of c w code a b))) (refused bad_page (ran c (x ∷ y ∷ [])))
+  unfolding events_of events_refusal first run_of event_of
+  one-event x y = go (rules_b c) refl
     where
-      go : (k : Bool) → rulesB c ≡ k → eventsOf (ran c (x ∷ y ∷ [])) asked ≡ cond k (outcome done 1 (answered (requestOf c w code a b))) (refused badPage (ran c (x ∷ y ∷ [])))
+      go : (k : Bool) → rules_b c ≡ k → events_of (ran c (x ∷ y ∷ [])) asked ≡ cond k (outcome done 1 (answered (request_of c w code a b))) (refused bad_page (ran c (x ∷ y ∷ [])))
       go true e = simp e
       go false e = simp e
 
   -- with the refusal by 2 written in advance, the answer after the run is the request's
-  pub one-request : eventsOf (ran c (badPage ∷ 0 ∷ [])) asked .after ≡ answered (requestOf c w code a b)
-  one-request = ap (λ (o : Outcome Run). o .after) (one-event badPage 0) ∙ go (rulesB c) refl
+  pub one-request : (events_of (ran c (bad_page ∷ 0 ∷ [])) asked).after ≡ answered (request_of c w code a b)
+  one-request = ap (λ (o : Outcome Run). o.after) (one-event bad_page 0) ∙ go (rules_b c) refl
     where
-      go : (k : Bool) → rulesB c ≡ k → cond k (outcome done 1 (answered (requestOf c w code a b))) (refused badPage (ran c (badPage ∷ 0 ∷ []))) .after ≡ answered (requestOf c w code a b)
+      go : (k : Bool) → rules_b c ≡ k → (cond k (outcome done 1 (answered (request_of c w code a b))) (refused bad_page (ran c (bad_page ∷ 0 ∷ [])))).after ≡ answered (request_of c w code a b)
       go true e = refl
       go false e = sym (ap answered (request-refused e))

@@ -1,20 +1,20 @@
 -- Which of the 70 words is what: the statements of `Words`, proved. Assumes nothing.
-use Prim.Native.Nat.{ℕ, zero, suc, _≤_, _<_}
-use mathlib.Core.Path.{_≡_, refl, sym, ap, subst}
-use mathlib.Core.Logic.{_≢_, _↔_}
+use Prim.Native.Nat.{ℕ, zero, suc, ◌≤◌, ◌<◌}
+use mathlib.Core.Path.{◌≡◌, refl, sym, ap, subst}
+use mathlib.Core.Logic.{◌≢◌, ◌↔◌}
 use mathlib.Core.Bool.{Bool, true, false, not, cond, true≢false}
-use mathlib.Core.List.{List, [], _∷_, map}
+use mathlib.Core.List.{List, [], ◌∷◌, map}
 use native.Mathlib.Omega.{arith}
 use lib.Dec.{eqb}
-use lib.ListN.{length, getD}
+use lib.ListN.{length, get_or}
 use borrow.Author.Tests.{eqb-true, eqb-false, lt-ltb, le-ltb}
-use Rattle·operations.specs.declared.Worker.{Worker}
-use Rattle·machine.specs.declared.State.{State}
-use Rattle·machine.specs.Config.{blank}
-use Rattle·host·specs.specs.Spelling.{workerAt, spelled, wordsOf}
-use Rattle·host·specs.specs.Calls.{written}
-use Rattle·host·specs.specs.Words.{Words, WordsAreRead, WordsAreWritten, RefusedLeavesWords}
-use Rattle·host·proofs.proofs.Spelled.{length-joined, spelled-words}
+use Rattle.operations.specs.declared.Worker.{Worker}
+use Rattle.machine.specs.declared.State.{State}
+use Rattle.machine.specs.Config.{blank}
+use Rattle.host.specs.Spelling.{worker_at, spelled, words_of}
+use Rattle.host.specs.Calls.{written}
+use Rattle.host.specs.Words.{Words, WordsAreRead, WordsAreWritten, RefusedLeavesWords}
+use Rattle.host.proofs.Spelled.{length-joined, spelled-words}
 
 -- a word that is not 0 means on
 on-is : (x : ℕ) → (not (eqb x 0) ≡ true) ↔ (x ≢ 0)
@@ -25,7 +25,7 @@ on-is x = go (eqb x 0) refl
     go false e = (λ q. eqb-false x 0 e, λ n. refl)
 
 -- record i of eight
-record-at : (words : List ℕ) (i : ℕ) → i < 8 → getD (spelled words .workers) i blank ≡ workerAt words i
+record-at : (words : List ℕ) (i : ℕ) → i < 8 → get_or (spelled words).workers i blank ≡ worker_at words i
 unfolding spelled
 record-at words zero l = refl
 record-at words (suc zero) l = refl
@@ -46,26 +46,26 @@ words-are-read words = (
     w = refl;
     shared = refl;
     tagged = refl;
-    on = on-is (getD words 5 0);
-    own = λ i l. ap (λ (k : Worker). k .own) (record-at words i l);
-    got = λ i l. ap (λ (k : Worker). k .got) (record-at words i l);
-    operation = λ i l. ap (λ (k : Worker). k .operation) (record-at words i l);
-    stage = λ i l. ap (λ (k : Worker). k .stage) (record-at words i l);
-    tag = λ i l. ap (λ (k : Worker). k .tag) (record-at words i l);
-    hand = λ i l. ap (λ (k : Worker). k .hand) (record-at words i l);
-    seen = λ i l. ap (λ (k : Worker). k .seen) (record-at words i l);
-    sightings = λ i l. ap (λ (k : Worker). k .sightings) (record-at words i l);
+    on = on-is (get_or words 5 0);
+    own = λ i l. ap (λ (k : Worker). k.own) (record-at words i l);
+    got = λ i l. ap (λ (k : Worker). k.got) (record-at words i l);
+    operation = λ i l. ap (λ (k : Worker). k.operation) (record-at words i l);
+    stage = λ i l. ap (λ (k : Worker). k.stage) (record-at words i l);
+    tag = λ i l. ap (λ (k : Worker). k.tag) (record-at words i l);
+    hand = λ i l. ap (λ (k : Worker). k.hand) (record-at words i l);
+    seen = λ i l. ap (λ (k : Worker). k.seen) (record-at words i l);
+    sightings = λ i l. ap (λ (k : Worker). k.sightings) (record-at words i l);
   },
   refl,
 )
 
 pub words-are-written : WordsAreWritten
-unfolding wordsOf
+unfolding words_of
 words-are-written s e =
     record {
-      each = subst (Words (wordsOf s)) (spelled-words s e) (words-are-read (wordsOf s) .0);
-      long = omega (arith, length-joined (s .workers));
-      switch = small (s .on);
+      each = subst (Words (words_of s)) (spelled-words s e) (words-are-read (words_of s)).0;
+      long = omega (arith, length-joined s.workers);
+      switch = small s.on;
     }
   where
     small : (b : Bool) → cond b 1 0 ≤ 1

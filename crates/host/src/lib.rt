@@ -1,22 +1,20 @@
 // The machine for a host program in C or Rust: exported functions on numbers and lent words. The state is 70 words,
 // an answer is number and value. No function has a requires, and a refusal changes no word but those of a fresh
 // start's state.
-ghost use mathlib.Core.Path.{_≡_};
-ghost use Rattle·answers.specs.Rows.{outcome};
-ghost use Rattle·machine.specs.Config.{lentOf, freshOf};
-ghost use Rattle·machine.specs.Requests.{requestOf};
-ghost use Rattle·machine.specs.Moves.{moveOf};
-ghost use Rattle·machine.specs.Switch.{switchOnOf, switchOffOf};
-ghost use Rattle·machine.specs.Events.{flagOf, ran, cameRun, eventsOf};
-ghost use Rattle·readers.specs.Readers.{listedCountOf, firstUnlistedOf, entryAnswerOf, compareOf};
-ghost use Rattle·host·specs.specs.Spelling.{spelled};
-ghost use Rattle·host·specs.specs.Calls.{handedOf, gave, holding, written, inWords, freshInWords, gaveRun, runInWords};
-use crate::spelling::BW;
-use crate::spelling::N;
-use crate::spelling::STATE_WORDS;
-use crate::spelling::W;
-use crate::spelling::load;
-use crate::spelling::store;
+#![tactic(auto)]
+
+ghost use Rattle.std.specs.Prelude.{◌≡◌};
+ghost use Rattle.answers.specs.Rows.{outcome};
+ghost use Rattle.machine.specs.Config.{lent_of, fresh_of};
+ghost use Rattle.machine.specs.Requests.{request_of};
+ghost use Rattle.machine.specs.Moves.{move_of};
+ghost use Rattle.machine.specs.Switch.{switch_on_of, switch_off_of};
+ghost use Rattle.machine.specs.Events.{flag_of, ran, came_run, events_of};
+ghost use Rattle.readers.specs.Readers.{listed_count_of, first_unlisted_of, entry_answer_of, compare_of};
+ghost use Rattle.host.specs.Spelling.{spelled};
+ghost use Rattle.host.specs.Calls.{handed_of, gave, holding, written, in_words, fresh_in_words, gave_run, run_in_words};
+
+use crate::spelling::{BW, N, STATE_WORDS, W, load, store};
 use answers::BAD_PAGE;
 use events::A_REQUEST;
 use machine::Reply;
@@ -25,6 +23,7 @@ mod spelling;
 
 // An answer, laid out as C expects.
 #[repr(C)]
+#[derive(Clone, Copy)]
 pub struct Answer {
     pub number: u64,
     pub value: u64,
@@ -32,7 +31,7 @@ pub struct Answer {
 
 // Writes the state given back unless the number refuses, and hands the answer on.
 fn finish(words: &mut [u64; STATE_WORDS], after: Reply) -> Answer
-    ensures { λ r. ⌜ outcome (r .number) (r .value) (now (words .exit)) ≡ outcome (after .number) (after .value) (written (now (words .entry)) (after .number) (after .state)) ⌝ }
+    ensures { outcome result.number result.value words.new ≡ outcome after.number after.value (written words.old after.number after.state) }
 {
     if after.number < BAD_PAGE {
         let s = after.state;
@@ -46,7 +45,7 @@ fn finish(words: &mut [u64; STATE_WORDS], after: Reply) -> Answer
 
 // A reader's answer.
 fn handed(answer: answers::Answer) -> Answer
-    ensures { λ r. ⌜ r ≡ handedOf answer ⌝ }
+    ensures { result ≡ handed_of answer }
 {
     Answer {
         number: answer.number,
@@ -56,7 +55,7 @@ fn handed(answer: answers::Answer) -> Answer
 
 // A fresh start over a zeroed bitmap. It reads no word of state; refused, it writes 0 to all of them and to nothing
 // else.
-#[no_mangle]
+#[unsafe(no_mangle)]
 pub extern "C" fn albmerik_fresh(
     state: &mut [u64; STATE_WORDS],
     page: &[u64],
@@ -65,7 +64,7 @@ pub extern "C" fn albmerik_fresh(
     bw: u64,
     w: u64,
 ) -> Answer
-    ensures { λ r. ⌜ gave r (now (state .exit)) (now (page .entry)) (now (bits .exit)) ≡ freshInWords (freshOf n bw w (now (page .entry)) (now (bits .entry))) ⌝ }
+    ensures { gave result state.new page.now bits.new ≡ fresh_in_words (fresh_of n bw w page.now bits.old) }
 {
     let reply = machine::fresh::fresh(n, bw, w, page, bits);
     let s = reply.state;
@@ -85,13 +84,13 @@ fn run(
     events: &[u64],
     answers: &mut [u64],
 ) -> Reply
-    ensures { λ r. ⌜ cameRun r (now (page .exit)) (now (bits .exit)) (now (answers .exit)) ≡ eventsOf (ran (holding (now (words .entry)) (now (page .entry)) (now (bits .entry))) (now (answers .entry))) (now (events .entry)) ⌝ }
+    ensures { came_run result page.new bits.new answers.new ≡ events_of (ran (holding words.now page.old bits.old) answers.old) events.now }
 {
     events::events(load(words), page, bits, events, answers)
 }
 
 // A request, as a run of one event. What the run writes, or leaves as the refusal by 2, is the answer.
-#[no_mangle]
+#[unsafe(no_mangle)]
 pub extern "C" fn albmerik_request(
     state: &mut [u64; STATE_WORDS],
     page: &mut [u64],
@@ -101,7 +100,7 @@ pub extern "C" fn albmerik_request(
     a: u64,
     b: u64,
 ) -> Answer
-    ensures { λ r. ⌜ gave r (now (state .exit)) (now (page .exit)) (now (bits .exit)) ≡ inWords (now (state .entry)) (requestOf (holding (now (state .entry)) (now (page .entry)) (now (bits .entry))) worker code a b) ⌝ }
+    ensures { gave result state.new page.new bits.new ≡ in_words state.old (request_of (holding state.old page.old bits.old) worker code a b) }
 {
     let event = [A_REQUEST, worker, code, a, b];
     let mut answer = [BAD_PAGE, 0];
@@ -112,7 +111,7 @@ pub extern "C" fn albmerik_request(
 }
 
 // A move of a worker; any flag but 0 is set.
-#[no_mangle]
+#[unsafe(no_mangle)]
 pub extern "C" fn albmerik_move(
     state: &mut [u64; STATE_WORDS],
     page: &mut [u64],
@@ -120,32 +119,32 @@ pub extern "C" fn albmerik_move(
     worker: u64,
     flag: u64,
 ) -> Answer
-    ensures { λ r. ⌜ gave r (now (state .exit)) (now (page .exit)) (now (bits .entry)) ≡ inWords (now (state .entry)) (moveOf (holding (now (state .entry)) (now (page .entry)) (now (bits .entry))) worker (flagOf flag)) ⌝ }
+    ensures { gave result state.new page.new bits.now ≡ in_words state.old (move_of (holding state.old page.old bits.now) worker (flag_of flag)) }
 {
     let reply = machine::moves::make_move(load(state), worker, flag != 0, page, bits);
     finish(state, reply)
 }
 
 // T switched on.
-#[no_mangle]
+#[unsafe(no_mangle)]
 pub extern "C" fn albmerik_on(state: &mut [u64; STATE_WORDS], page: &[u64], bits: &[u64]) -> Answer
-    ensures { λ r. ⌜ gave r (now (state .exit)) (now (page .entry)) (now (bits .entry)) ≡ inWords (now (state .entry)) (switchOnOf (holding (now (state .entry)) (now (page .entry)) (now (bits .entry)))) ⌝ }
+    ensures { gave result state.new page.now bits.now ≡ in_words state.old (switch_on_of (holding state.old page.now bits.now)) }
 {
     let reply = machine::switch::switch_on(load(state), page, bits);
     finish(state, reply)
 }
 
 // T switched off.
-#[no_mangle]
+#[unsafe(no_mangle)]
 pub extern "C" fn albmerik_off(state: &mut [u64; STATE_WORDS], page: &[u64], bits: &[u64]) -> Answer
-    ensures { λ r. ⌜ gave r (now (state .exit)) (now (page .entry)) (now (bits .entry)) ≡ inWords (now (state .entry)) (switchOffOf (holding (now (state .entry)) (now (page .entry)) (now (bits .entry)))) ⌝ }
+    ensures { gave result state.new page.now bits.now ≡ in_words state.old (switch_off_of (holding state.old page.now bits.now)) }
 {
     let reply = machine::switch::switch_off(load(state), page, bits);
     finish(state, reply)
 }
 
 // A run of events, each one's answer in its place.
-#[no_mangle]
+#[unsafe(no_mangle)]
 pub extern "C" fn albmerik_events(
     state: &mut [u64; STATE_WORDS],
     page: &mut [u64],
@@ -153,51 +152,51 @@ pub extern "C" fn albmerik_events(
     events: &[u64],
     answers: &mut [u64],
 ) -> Answer
-    ensures { λ r. ⌜ gaveRun r (now (state .exit)) (now (page .exit)) (now (bits .exit)) (now (answers .exit)) ≡ runInWords (now (state .entry)) (eventsOf (ran (holding (now (state .entry)) (now (page .entry)) (now (bits .entry))) (now (answers .entry))) (now (events .entry))) ⌝ }
+    ensures { gave_run result state.new page.new bits.new answers.new ≡ run_in_words state.old (events_of (ran (holding state.old page.old bits.old) answers.old) events.now) }
 {
     let reply = run(state, page, bits, events, answers);
     finish(state, reply)
 }
 
 // How many blocks are listed.
-#[no_mangle]
+#[unsafe(no_mangle)]
 pub extern "C" fn albmerik_listed_count(
     state: &[u64; STATE_WORDS],
     page: &[u64],
     bits: &[u64],
 ) -> Answer
-    ensures { λ r. ⌜ r ≡ handedOf (listedCountOf (lentOf (holding (now (state .entry)) (now (page .entry)) (now (bits .entry)))) (spelled (now (state .entry)) .w)) ⌝ }
+    ensures { result ≡ handed_of (listed_count_of (lent_of (holding state.now page.now bits.now)) (spelled state.now).w) }
 {
     handed(readers::listed_count(state[N], state[BW], state[W], page, bits))
 }
 
 // The smallest block that is not listed.
-#[no_mangle]
+#[unsafe(no_mangle)]
 pub extern "C" fn albmerik_first_unlisted(
     state: &[u64; STATE_WORDS],
     page: &[u64],
     bits: &[u64],
 ) -> Answer
-    ensures { λ r. ⌜ r ≡ handedOf (firstUnlistedOf (lentOf (holding (now (state .entry)) (now (page .entry)) (now (bits .entry)))) (spelled (now (state .entry)) .w)) ⌝ }
+    ensures { result ≡ handed_of (first_unlisted_of (lent_of (holding state.now page.now bits.now)) (spelled state.now).w) }
 {
     handed(readers::first_unlisted(state[N], state[BW], state[W], page, bits))
 }
 
 // Which number applies to block a's entry.
-#[no_mangle]
+#[unsafe(no_mangle)]
 pub extern "C" fn albmerik_entry_answer(
     state: &[u64; STATE_WORDS],
     page: &[u64],
     bits: &[u64],
     a: u64,
 ) -> Answer
-    ensures { λ r. ⌜ r ≡ handedOf (entryAnswerOf (lentOf (holding (now (state .entry)) (now (page .entry)) (now (bits .entry)))) (spelled (now (state .entry)) .w) a) ⌝ }
+    ensures { result ≡ handed_of (entry_answer_of (lent_of (holding state.now page.now bits.now)) (spelled state.now).w a) }
 {
     handed(readers::entry_answer(state[N], state[BW], state[W], page, bits, a))
 }
 
 // How many leading words of two entries are equal.
-#[no_mangle]
+#[unsafe(no_mangle)]
 pub extern "C" fn albmerik_compare_entries(
     state: &[u64; STATE_WORDS],
     page: &[u64],
@@ -205,7 +204,7 @@ pub extern "C" fn albmerik_compare_entries(
     a: u64,
     b: u64,
 ) -> Answer
-    ensures { λ r. ⌜ r ≡ handedOf (compareOf (lentOf (holding (now (state .entry)) (now (page .entry)) (now (bits .entry)))) (spelled (now (state .entry)) .w) a b) ⌝ }
+    ensures { result ≡ handed_of (compare_of (lent_of (holding state.now page.now bits.now)) (spelled state.now).w a b) }
 {
     handed(readers::compare_entries(state[N], state[BW], state[W], page, bits, a, b))
 }

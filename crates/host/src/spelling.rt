@@ -1,12 +1,10 @@
 // The state in 70 words: read from them, and written to them.
-ghost use mathlib.Core.Path.{_≡_};
-ghost use Prim.Native.Nat.{_<_};
-ghost use lib.ListN.{length};
-ghost use lib.Seq.{sets};
-ghost use Rattle·page.specs.Limits.{maxWorkers};
-ghost use Rattle·host·specs.specs.Spelling.{stateWords, recordAt, workerAt, spelled, workerWords, wordsOf};
-use machine::RECORDS;
-use machine::State;
+ghost use Rattle.std.specs.Prelude.{◌≡◌, ◌<◌, length};
+ghost use Rattle.std.proofs.lemmas.List.Edits.{sets};
+ghost use Rattle.page.specs.Limits.{max_workers};
+ghost use Rattle.host.specs.Spelling.{state_words, record_at, worker_at, spelled, worker_words, words_of};
+
+use machine::{RECORDS, State};
 use operations::Worker;
 
 // How many words spell a state.
@@ -33,8 +31,8 @@ const RECORD_WORDS: usize = 8;
 
 // Reads worker i's record.
 fn worker_at(words: &[u64; STATE_WORDS], i: usize) -> Worker
-    requires { ⌜ i < maxWorkers ⌝ }
-    ensures { λ r. ⌜ r ≡ workerAt (now (words .entry)) i ⌝ }
+    requires { i < max_workers }
+    ensures { result ≡ worker_at words.now i }
 {
     let at = FIRST_RECORD + i * RECORD_WORDS;
     Worker {
@@ -51,7 +49,7 @@ fn worker_at(words: &[u64; STATE_WORDS], i: usize) -> Worker
 
 // The state that the words spell; any word but 0 means on.
 pub fn load(words: &[u64; STATE_WORDS]) -> State
-    ensures { λ r. ⌜ r ≡ spelled (now (words .entry)) ⌝ }
+    ensures { result ≡ spelled words.now }
 {
     let workers = [
         worker_at(words, 0),
@@ -76,8 +74,8 @@ pub fn load(words: &[u64; STATE_WORDS]) -> State
 
 // Writes worker i's record.
 fn put_worker(words: &mut [u64], i: usize, k: Worker)
-    requires { ⌜ (i < maxWorkers) × (length (now words) ≡ stateWords) ⌝ }
-    ensures { λ r. ⌜ now (words .exit) ≡ sets (now (words .entry)) (recordAt i) (workerWords k) ⌝ }
+    requires { (i < max_workers) × (length words.old ≡ state_words) }
+    ensures { words.new ≡ sets words.old (record_at i) (worker_words k) }
 {
     let at = FIRST_RECORD + i * RECORD_WORDS;
     words[at] = k.own;
@@ -92,8 +90,8 @@ fn put_worker(words: &mut [u64], i: usize, k: Worker)
 
 // Writes the words that spell a state; on becomes 0 or 1.
 pub fn store(words: &mut [u64], s: State)
-    requires { ⌜ length (now words) ≡ stateWords ⌝ }
-    ensures { λ r. ⌜ now (words .exit) ≡ wordsOf s ⌝ }
+    requires { length words.old ≡ state_words }
+    ensures { words.new ≡ words_of s }
 {
     words[N] = s.n;
     words[BW] = s.bw;

@@ -1,9 +1,8 @@
 -- A worker's two lists in what is lent, and what comes of a call on them.
-use Prim.Native.Nat.{ℕ}
-use mathlib.Core.List.{List}
-use Rattle·answers.specs.Rows.{Outcome, outcome}
-use Rattle·page.specs.Page.{Lent, lent}
-use Rattle·lists·specs.specs.declared.Heads.{Heads}
+use Rattle.std.specs.Prelude.{ℕ, List}
+use Rattle.answers.specs.Rows.{Outcome, outcome}
+use Rattle.page.specs.Page.{Lent, lent}
+use Rattle.lists.specs.declared.Heads.{Heads}
 
 -- the heads of own and got, and what is lent
 pub record Lists : Type 0 where
@@ -16,7 +15,7 @@ lists own got n bw page bits = record { own = own; got = got; lent = lent n bw p
 
 -- what came of a call: the answer and the heads given back, and what the slices hold
 abbrev pub came : ℕ → ℕ → Heads → List ℕ → List ℕ → Outcome Lists
-came n bw r page bits = outcome (r .number) (r .value) (lists (r .own) (r .got) n bw page bits)
+came n bw r page bits = outcome r.number r.value (lists r.own r.got n bw page bits)
 
 -- an answer and two heads
 abbrev pub heads : ℕ → ℕ → ℕ → ℕ → Heads

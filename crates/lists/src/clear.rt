@@ -1,15 +1,14 @@
 // The bits of a list's blocks cleared, for `make_empty`.
-ghost use mathlib.Core.Path.{_≡_};
-ghost use Prim.Native.Nat.{_≤_};
-ghost use Rattle·page.specs.Limits.{maxWidth};
-ghost use Rattle·lists·specs.specs.Own.{clearAll, blocksFrom};
-use page::block;
-use page::link;
+ghost use Rattle.std.specs.Prelude.{◌≡◌, ◌≤◌};
+ghost use Rattle.page.specs.Limits.{max_width};
+ghost use Rattle.lists.specs.Own.{clear_all, blocks_from};
+
+use page::{block, link};
 
 // Clears the bits of the first count blocks from head on.
 pub fn clear_met(head: u64, count: u64, bw: u64, page: &[u64], bits: &mut [u64])
-    requires { ⌜ (1 ≤ bw) × (bw ≤ maxWidth) ⌝ }
-    ensures { λ r. ⌜ now (bits .exit) ≡ clearAll (now (bits .entry)) (blocksFrom bw (now (page .entry)) count head) ⌝ }
+    requires { (1 ≤ bw) × (bw ≤ max_width) }
+    ensures { bits.new ≡ clear_all bits.old (blocks_from bw page.now count head) }
 {
     let mut h = head;
     let mut left = count;

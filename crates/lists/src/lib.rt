@@ -1,29 +1,20 @@
 // Upstream's LL over heads and the two lent slices. Each function takes own's and got's heads, the page's numbers and
 // the slices, and gives back the answer and the heads. No public function has a requires: each refuses by document
 // 01's numbers, the smallest first, and a refusal changes nothing.
-ghost use mathlib.Core.Path.{_≡_};
-ghost use Rattle·lists·specs.specs.Lists.{lists, came, heads};
-ghost use Rattle·lists·specs.specs.Own.{insertOf, popOf, appendOf, extendOf, releaseOf, emptyOf};
-use answers::BAD_PAGE;
-use answers::DAMAGED;
-use answers::DONE;
-use answers::LISTED;
-use answers::NO_SUCH;
-use answers::NONE_LEFT;
-use page::address;
-use page::block;
-use page::fits;
-use page::is_block;
-use page::is_run;
-use page::link;
-use page::set_link;
-use page::sound;
-use page::walk;
+#![tactic(auto)]
+
+ghost use Rattle.std.specs.Prelude.{◌≡◌};
+ghost use Rattle.lists.specs.Lists.{lists, came, heads};
+ghost use Rattle.lists.specs.Own.{insert_of, pop_of, append_of, extend_of, release_of, empty_of};
+
+use answers::{BAD_PAGE, DAMAGED, DONE, LISTED, NO_SUCH, NONE_LEFT};
+use page::{address, block, fits, is_block, is_run, link, set_link, sound, walk};
 
 mod clear;
 mod lay;
 
 // The answer, and the heads of own and got after it.
+#[derive(Clone, Copy)]
 pub struct Heads {
     pub number: u64,
     pub value: u64,
@@ -33,21 +24,21 @@ pub struct Heads {
 
 // The head of an empty list.
 pub fn new() -> u64
-    ensures { λ r. ⌜ r ≡ 0 ⌝ }
+    ensures { result ≡ 0 }
 {
     0
 }
 
 // The head of an empty list, by upstream's other name.
 pub fn empty() -> u64
-    ensures { λ r. ⌜ r ≡ 0 ⌝ }
+    ensures { result ≡ 0 }
 {
     new()
 }
 
 // A refusal: the heads stay.
 pub fn refuse(number: u64, own: u64, got: u64) -> Heads
-    ensures { λ r. ⌜ r ≡ heads number 0 own got ⌝ }
+    ensures { result ≡ heads number 0 own got }
 {
     Heads {
         number,
@@ -67,7 +58,7 @@ pub fn insert_block(
     bits: &mut [u64],
     a: u64,
 ) -> Heads
-    ensures { λ r. ⌜ came n bw r (now (page .exit)) (now (bits .exit)) ≡ insertOf (lists own got n bw (now (page .entry)) (now (bits .entry))) a ⌝ }
+    ensures { came n bw result page.new bits.new ≡ insert_of (lists own got n bw page.old bits.old) a }
 {
     if !fits(n, bw, page.len(), bits.len()) {
         return refuse(BAD_PAGE, own, got);
@@ -94,7 +85,7 @@ pub fn insert_block(
 
 // Takes own's front block: its bit is cleared, and its link becomes the head. No page word changes.
 pub fn pop_block(own: u64, got: u64, n: u64, bw: u64, page: &[u64], bits: &mut [u64]) -> Heads
-    ensures { λ r. ⌜ came n bw r (now (page .entry)) (now (bits .exit)) ≡ popOf (lists own got n bw (now (page .entry)) (now (bits .entry))) ⌝ }
+    ensures { came n bw result page.now bits.new ≡ pop_of (lists own got n bw page.now bits.old) }
 {
     if !fits(n, bw, page.len(), bits.len()) {
         return refuse(BAD_PAGE, own, got);
@@ -121,7 +112,7 @@ pub fn pop_block(own: u64, got: u64, n: u64, bw: u64, page: &[u64], bits: &mut [
 
 // Puts got before own: the link of got's last block becomes own's head, and got becomes empty.
 pub fn append(own: u64, got: u64, n: u64, bw: u64, page: &mut [u64], bits: &[u64]) -> Heads
-    ensures { λ r. ⌜ came n bw r (now (page .exit)) (now (bits .entry)) ≡ appendOf (lists own got n bw (now (page .entry)) (now (bits .entry))) ⌝ }
+    ensures { came n bw result page.new bits.now ≡ append_of (lists own got n bw page.old bits.now) }
 {
     if !fits(n, bw, page.len(), bits.len()) {
         return refuse(BAD_PAGE, own, got);
@@ -161,7 +152,7 @@ pub fn prepend_contiguous_blocks(
     a: u64,
     b: u64,
 ) -> Heads
-    ensures { λ r. ⌜ came n bw r (now (page .exit)) (now (bits .exit)) ≡ extendOf (lists own got n bw (now (page .entry)) (now (bits .entry))) a b ⌝ }
+    ensures { came n bw result page.new bits.new ≡ extend_of (lists own got n bw page.old bits.old) a b }
 {
     if !fits(n, bw, page.len(), bits.len()) {
         return refuse(BAD_PAGE, own, got);
@@ -187,7 +178,7 @@ pub fn prepend_contiguous_blocks(
 
 // Clears the bits of all own blocks and empties own.
 pub fn make_empty(own: u64, got: u64, n: u64, bw: u64, page: &[u64], bits: &mut [u64]) -> Heads
-    ensures { λ r. ⌜ came n bw r (now (page .entry)) (now (bits .exit)) ≡ releaseOf (lists own got n bw (now (page .entry)) (now (bits .entry))) ⌝ }
+    ensures { came n bw result page.now bits.new ≡ release_of (lists own got n bw page.now bits.old) }
 {
     if !fits(n, bw, page.len(), bits.len()) {
         return refuse(BAD_PAGE, own, got);
@@ -207,7 +198,7 @@ pub fn make_empty(own: u64, got: u64, n: u64, bw: u64, page: &[u64], bits: &mut 
 
 // Answers 1 if own is empty, else 0. It looks at the head alone.
 pub fn is_empty(own: u64, got: u64, n: u64, bw: u64, page: &[u64], bits: &[u64]) -> Heads
-    ensures { λ r. ⌜ came n bw r (now (page .entry)) (now (bits .entry)) ≡ emptyOf (lists own got n bw (now (page .entry)) (now (bits .entry))) ⌝ }
+    ensures { came n bw result page.now bits.now ≡ empty_of (lists own got n bw page.now bits.now) }
 {
     if !fits(n, bw, page.len(), bits.len()) {
         return refuse(BAD_PAGE, own, got);

@@ -1,19 +1,19 @@
 -- The busy workers of a walk over the records, and what a call gives back. Assumes nothing.
-use Prim.Native.Nat.{ℕ, suc, _+_, _-_, _≤_, _<_}
-use mathlib.Core.Path.{_≡_, refl, ap, _∙_}
-use mathlib.Core.Bool.{Bool, false, _||_}
-use mathlib.Core.List.{List, [], _∷_}
+use Prim.Native.Nat.{ℕ, suc, ◌+◌, ◌-◌, ◌≤◌, ◌<◌}
+use mathlib.Core.Path.{◌≡◌, refl, ap, ◌∙◌}
+use mathlib.Core.Bool.{Bool, false, ◌||◌}
+use mathlib.Core.List.{List, [], ◌∷◌}
 use native.Mathlib.Omega.{arith}
 use native.Mathlib.Numerals.{add-one}
-use lib.ListN.{length, getD, drop, drop-of-length-le}
+use lib.ListN.{length, get_or, drop, drop_of_length-le}
 use lib.Seq.{drop-cons}
-use Rattle·answers.specs.Rows.{outcome}
-use Rattle·operations.specs.declared.Worker.{Worker}
-use Rattle·operations.specs.Operations.{busyB}
-use Rattle·machine·specs.specs.declared.State.{State}
-use Rattle·machine·specs.specs.declared.Reply.{Reply}
-use Rattle·machine·specs.specs.Config.{config, came, blank}
-use Rattle·machine·specs.specs.Table.{anyBusy}
+use Rattle.answers.specs.Rows.{outcome}
+use Rattle.operations.specs.declared.Worker.{Worker}
+use Rattle.operations.specs.Operations.{busy_b}
+use Rattle.machine.specs.declared.State.{State}
+use Rattle.machine.specs.declared.Reply.{Reply}
+use Rattle.machine.specs.Config.{config, came, blank}
+use Rattle.machine.specs.Table.{any_busy}
 
 -- ---- what a call gives back
 
@@ -22,41 +22,41 @@ pub came-by : {r s : Reply} {page bits : List ℕ} → r ≡ s → came r page b
 came-by e = simp e
 
 -- by the value, the state and the bitmap that its steps come to
-pub gives : {number v v′ : ℕ} {s s′ : State} {page bits bits′ : List ℕ} → v ≡ v′ → s ≡ s′ → bits ≡ bits′
-    → outcome number v (config s page bits) ≡ outcome number v′ (config s′ page bits′)
+pub gives : {number v v' : ℕ} {s s' : State} {page bits bits' : List ℕ} → v ≡ v' → s ≡ s' → bits ≡ bits'
+    → outcome number v (config s page bits) ≡ outcome number v' (config s' page bits')
 gives p q r = simp (p, q, r)
 
 -- ---- the records from i on
 
 -- the first W of the records from i on
-abbrev pub busyFrom : List Worker → ℕ → ℕ → Bool
-busyFrom ks w i = anyBusy (drop i ks) (w - i)
+abbrev pub busy_from : List Worker → ℕ → ℕ → Bool
+busy_from ks w i = any_busy (drop i ks) (w - i)
 
 -- from 0 on, all of them
-pub busy-whole : (ks : List Worker) (w : ℕ) → busyFrom ks w 0 ≡ anyBusy ks w
+pub busy-whole : (ks : List Worker) (w : ℕ) → busy_from ks w 0 ≡ any_busy ks w
 busy-whole ks w =
     let z : w - 0 ≡ w = omega arith in
-    ap (anyBusy ks) z
+    ap (any_busy ks) z
 
-none : (ks : List Worker) → anyBusy ks 0 ≡ false
-unfolding anyBusy
+none : (ks : List Worker) → any_busy ks 0 ≡ false
+unfolding any_busy
 none [] = refl
 none (k ∷ ks) = refl
 
 -- past the first W there is none
-pub busy-none : (ks : List Worker) (w i : ℕ) → w ≤ i → busyFrom ks w i ≡ false
+pub busy-none : (ks : List Worker) (w i : ℕ) → w ≤ i → busy_from ks w i ≡ false
 busy-none ks w i h =
     let z : w - i ≡ 0 = omega arith in
-    ap (anyBusy (drop i ks)) z ∙ none (drop i ks)
+    ap (any_busy (drop i ks)) z ∙ none (drop i ks)
 
 -- past the last record there is none
-pub busy-end : (ks : List Worker) (w i : ℕ) → length ks ≤ i → busyFrom ks w i ≡ false
-unfolding anyBusy
-busy-end ks w i h = simp (drop-of-length-le ks h)
+pub busy-end : (ks : List Worker) (w i : ℕ) → length ks ≤ i → busy_from ks w i ≡ false
+unfolding any_busy
+busy-end ks w i h = simp (drop_of_length-le ks h)
 
 -- the record at i, and those after it
-pub busy-at : (ks : List Worker) (w i : ℕ) {b : Bool} → i < length ks → i < w → busyB (getD ks i blank) ≡ b → busyFrom ks w i ≡ b || busyFrom ks w (i + 1)
-unfolding anyBusy
+pub busy-at : (ks : List Worker) (w i : ℕ) {b : Bool} → i < length ks → i < w → busy_b (get_or ks i blank) ≡ b → busy_from ks w i ≡ b || busy_from ks w (i + 1)
+unfolding any_busy
 busy-at ks w i h l e =
     let z : w - i ≡ suc (w - (i + 1)) = omega arith in
     simp (drop-cons ks i blank h, z, e, add-one)

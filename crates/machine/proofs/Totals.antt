@@ -1,48 +1,48 @@
 -- Demand 1, proved: numbers within the table, and refusals that change nothing. Assumes nothing.
-use Prim.Native.Nat.{ℕ, _≤_}
-use mathlib.Core.Path.{_≡_, refl}
+use Prim.Native.Nat.{ℕ, ◌≤◌}
+use mathlib.Core.Path.{◌≡◌, refl}
 use mathlib.Core.Bool.{Bool, true, false, cond}
-use mathlib.Core.List.{List, [], _∷_}
+use mathlib.Core.List.{List, [], ◌∷◌}
 use native.Mathlib.Omega.{arith}
 use lib.Dec.{eqb, leb}
-use Rattle·answers.specs.Numbers.{done, underWay, damaged}
-use Rattle·answers.specs.Rows.{Row, first, Outcome, unless, refused}
-use Rattle·lists.specs.Own.{insertAct, popAct, appendAct, extendAct, releaseAct, emptyAct}
-use Rattle·operations.specs.Operations.{takeShared, setTag, askTag, loading, writing, exchanging, swapping, stagedB, pushesB}
-use Rattle·staged.specs.Workers.{maxSightings}
-use Rattle·staged.specs.Start.{startAct}
-use Rattle·staged.specs.Damage.{Turn, headWord}
-use Rattle·staged.specs.Moves.{failsB, loadAsk, loadAwait, loadAct, writeAct, exchangeAct, swapAct, maskAct, moveAct}
-use Rattle·words.specs.Tagged.{tagOf}
-use Rattle·lists.specs.Lists.{Lists}
-use Rattle·machine·specs.specs.Config.{Config, listsOf, turnOf, putTurn, over}
-use Rattle·machine·specs.specs.Table.{insert, pop, append, extend, release, requestRows, requestRefusal, moveRows, moveRefusal, onRows, onRefusal, offRows, offRefusal}
-use Rattle·machine·specs.specs.Requests.{atOnceAct, requestAct, requestOf}
-use Rattle·machine·specs.specs.Moves.{moveOf}
-use Rattle·machine·specs.specs.Switch.{switchOnOf, switchOffOf}
-use Rattle·machine·specs.specs.Total.{Answered, AllAnswered}
-use Rattle·machine·proofs.proofs.Unchanged.{pick}
+use Rattle.answers.specs.Numbers.{done, under_way, damaged}
+use Rattle.answers.specs.Rows.{Row, first, Outcome, unless, refused}
+use Rattle.lists.specs.Own.{insert_act, pop_act, append_act, extend_act, release_act, empty_act}
+use Rattle.operations.specs.Operations.{take_shared, set_tag, ask_tag, loading, writing, exchanging, swapping, staged_b, pushes_b}
+use Rattle.staged.specs.Workers.{max_sightings}
+use Rattle.staged.specs.Start.{start_act}
+use Rattle.staged.specs.Damage.{Turn, head_word}
+use Rattle.staged.specs.Moves.{fails_b, load_ask, load_await, load_act, write_act, exchange_act, swap_act, mask_act, move_act}
+use Rattle.words.specs.Tagged.{tag_of}
+use Rattle.lists.specs.Lists.{Lists}
+use Rattle.machine.specs.Config.{Config, lists_of, turn_of, put_turn, over}
+use Rattle.machine.specs.Table.{insert, pop, append, extend, release, request_rows, request_refusal, move_rows, move_refusal, on_rows, on_refusal, off_rows, off_refusal}
+use Rattle.machine.specs.Requests.{at_once_act, request_act, request_of}
+use Rattle.machine.specs.Moves.{move_of}
+use Rattle.machine.specs.Switch.{switch_on_of, switch_off_of}
+use Rattle.machine.specs.Total.{Answered, AllAnswered}
+use Rattle.machine.proofs.Unchanged.{pick}
 
 -- ---- rows
 
 -- every row's number is at most 11
 abbrev Small : List Row → Type 0
 Small [] = Unit {0}
-Small (r ∷ rows) = (r .number ≤ damaged) × Small rows
+Small (r ∷ rows) = (r.number ≤ damaged) × Small rows
 
-first-small : (rows : List Row) → Small rows → first rows ≤ damaged
+first_small : (rows : List Row) → Small rows → first rows ≤ damaged
 unfolding first
-first-small [] s = omega arith
-first-small (r ∷ rows) s = go (r .applies) refl (first-small rows (s .1))
+first_small [] s = omega arith
+first_small (r ∷ rows) s = go r.applies refl (first_small rows s.1)
   where
-    go : (b : Bool) → r .applies ≡ b → first rows ≤ damaged → cond (r .applies) (r .number) (first rows) ≤ damaged
-    go true e l = rw e (s .0)
+    go : (b : Bool) → r.applies ≡ b → first rows ≤ damaged → cond r.applies r.number (first rows) ≤ damaged
+    go true e l = rw e s.0
     go false e l = rw e l
 
 -- ---- a refusal or an act
 
 module _ (c : Config) (k : ℕ) (act : Outcome Config) where
-  unless-answered : k ≤ damaged → act .number ≤ underWay → Answered c (unless k c act)
+  unless-answered : k ≤ damaged → act.number ≤ under_way → Answered c (unless k c act)
   unless-answered l a = go (eqb k 0) refl
     where
       go : (b : Bool) → eqb k 0 ≡ b → Answered c (unless k c act)
@@ -51,12 +51,12 @@ module _ (c : Config) (k : ℕ) (act : Outcome Config) where
 
 -- ---- what the acts answer
 
-pub at-once-done : (l : Lists) (code a b : ℕ) → atOnceAct l code a b .number ≡ done
-unfolding atOnceAct insertAct popAct appendAct extendAct releaseAct emptyAct
-at-once-done l code a b = go (eqb code insert) refl (eqb code pop) refl (eqb code append) refl (eqb code extend) refl (eqb code release) refl (eqb (l .got) 0) refl
+pub at-once-done : (l : Lists) (code a b : ℕ) → (at_once_act l code a b).number ≡ done
+unfolding at_once_act insert_act pop_act append_act extend_act release_act empty_act
+at-once-done l code a b = go (eqb code insert) refl (eqb code pop) refl (eqb code append) refl (eqb code extend) refl (eqb code release) refl (eqb l.got 0) refl
   where
     go : (b1 : Bool) → eqb code insert ≡ b1 → (b2 : Bool) → eqb code pop ≡ b2 → (b3 : Bool) → eqb code append ≡ b3 → (b4 : Bool) → eqb code extend ≡ b4
-        → (b5 : Bool) → eqb code release ≡ b5 → (b6 : Bool) → eqb (l .got) 0 ≡ b6 → atOnceAct l code a b .number ≡ done
+        → (b5 : Bool) → eqb code release ≡ b5 → (b6 : Bool) → eqb l.got 0 ≡ b6 → (at_once_act l code a b).number ≡ done
     go true e1 b2 e2 b3 e3 b4 e4 b5 e5 b6 e6 = rw e1
     go false e1 true e2 b3 e3 b4 e4 b5 e5 b6 e6 = rw (e1, e2)
     go false e1 false e2 true e3 b4 e4 b5 e5 true e6 = rw (e1, e2, e3, e6)
@@ -65,49 +65,49 @@ at-once-done l code a b = go (eqb code insert) refl (eqb code pop) refl (eqb cod
     go false e1 false e2 false e3 false e4 true e5 b6 e6 = rw (e1, e2, e3, e4, e5)
     go false e1 false e2 false e3 false e4 false e5 b6 e6 = rw (e1, e2, e3, e4, e5)
 
-pub request-act-small : (c : Config) (w code a b : ℕ) → requestAct c w code a b .number ≤ underWay
-unfolding requestAct startAct
-request-act-small c w code a b = go (stagedB code) refl
+pub request-act-small : (c : Config) (w code a b : ℕ) → (request_act c w code a b).number ≤ under_way
+unfolding request_act start_act
+request-act-small c w code a b = go (staged_b code) refl
   where
-    go : (q : Bool) → stagedB code ≡ q → requestAct c w code a b .number ≤ underWay
+    go : (q : Bool) → staged_b code ≡ q → (request_act c w code a b).number ≤ under_way
     go true e = rw e (omega arith)
-    go false e = rw e (omega (arith, at-once-done (listsOf c w) code a b))
+    go false e = rw e (omega (arith, at-once-done (lists_of c w) code a b))
 
 -- either of two, whichever a test picks
-pick-small : {C : Type 0} (b : Bool) (x y : Outcome C) → x .number ≤ underWay → y .number ≤ underWay → cond b x y .number ≤ underWay
-pick-small {C} = pick (λ (o : Outcome C). o .number ≤ underWay)
+pick_small : {C : Type 0} (b : Bool) (x y : Outcome C) → x.number ≤ under_way → y.number ≤ under_way → (cond b x y).number ≤ under_way
+pick_small {C} = pick (λ (o : Outcome C). o.number ≤ under_way)
 
-pub move-act-small : (t : Turn) (flag : Bool) → moveAct t flag .number ≤ underWay
-unfolding moveAct loadAct loadAsk loadAwait writeAct exchangeAct swapAct maskAct
+pub move-act-small : (t : Turn) (flag : Bool) → (move_act t flag).number ≤ under_way
+unfolding move_act load_act load_ask load_await write_act exchange_act swap_act mask_act
 move-act-small t flag =
-    pick-small (eqb (t .worker .stage) loading) (loadAct t) _
-    (pick-small (pushesB (t .worker .operation)) _ _ (omega arith)
-    (pick-small (eqb (t .worker .operation) takeShared) _ _ (pick-small (eqb (headWord t) 0) _ _ (omega arith) (omega arith))
-    (pick-small (eqb (t .worker .operation) setTag) _ _ (omega arith)
-    (pick-small (eqb (t .worker .operation) askTag) (loadAsk t (headWord t)) (loadAwait t (headWord t))
-    (pick-small (eqb (tagOf (headWord t)) 1) _ _ (pick-small (leb maxSightings (t .worker .sightings)) _ _ (omega arith) (omega arith))
-    (pick-small (eqb (tagOf (headWord t)) 2) _ _ (omega arith) (omega arith)))
-    (pick-small (eqb (tagOf (headWord t)) 1) _ _ (omega arith) (omega arith))))))
-    (pick-small (eqb (t .worker .stage) writing) (writeAct t) _ (omega arith)
-    (pick-small (eqb (t .worker .stage) exchanging) (exchangeAct t flag) _ (pick-small (failsB (headWord t) (t .worker .seen) flag) _ _ (omega arith) (omega arith))
-    (pick-small (eqb (t .worker .stage) swapping) (swapAct t) (maskAct t) (omega arith) (omega arith))))
+    pick_small (eqb t.worker.stage loading) (load_act t) _
+    (pick_small (pushes_b t.worker.operation) _ _ (omega arith)
+    (pick_small (eqb t.worker.operation take_shared) _ _ (pick_small (eqb (head_word t) 0) _ _ (omega arith) (omega arith))
+    (pick_small (eqb t.worker.operation set_tag) _ _ (omega arith)
+    (pick_small (eqb t.worker.operation ask_tag) (load_ask t (head_word t)) (load_await t (head_word t))
+    (pick_small (eqb (tag_of (head_word t)) 1) _ _ (pick_small (leb max_sightings t.worker.sightings) _ _ (omega arith) (omega arith))
+    (pick_small (eqb (tag_of (head_word t)) 2) _ _ (omega arith) (omega arith)))
+    (pick_small (eqb (tag_of (head_word t)) 1) _ _ (omega arith) (omega arith))))))
+    (pick_small (eqb t.worker.stage writing) (write_act t) _ (omega arith)
+    (pick_small (eqb t.worker.stage exchanging) (exchange_act t flag) _ (pick_small (fails_b (head_word t) t.worker.seen flag) _ _ (omega arith) (omega arith))
+    (pick_small (eqb t.worker.stage swapping) (swap_act t) (mask_act t) (omega arith) (omega arith))))
 
 -- ---- the tables
 
-request-refusal-small : (c : Config) (w code a b : ℕ) → requestRefusal c w code a b ≤ damaged
-unfolding requestRows
+request-refusal-small : (c : Config) (w code a b : ℕ) → request_refusal c w code a b ≤ damaged
+unfolding request_rows
 request-refusal-small c w code a b =
-    first-small _ (omega arith, (omega arith, (omega arith, (omega arith, (omega arith, (omega arith, (omega arith, (omega arith, (omega arith, tt)))))))))
+    first_small _ (omega arith, (omega arith, (omega arith, (omega arith, (omega arith, (omega arith, (omega arith, (omega arith, (omega arith, tt)))))))))
 
-move-refusal-small : (c : Config) (w : ℕ) → moveRefusal c w ≤ damaged
-unfolding moveRows
-move-refusal-small c w = first-small _ (omega arith, (omega arith, (omega arith, (omega arith, tt))))
+move-refusal-small : (c : Config) (w : ℕ) → move_refusal c w ≤ damaged
+unfolding move_rows
+move-refusal-small c w = first_small _ (omega arith, (omega arith, (omega arith, (omega arith, tt))))
 
 pub all-answered : AllAnswered
-unfolding requestOf moveOf switchOnOf switchOffOf onRows offRows
+unfolding request_of move_of switch_on_of switch_off_of on_rows off_rows
 all-answered = (
-  λ c w code a b. unless-answered c (requestRefusal c w code a b) (requestAct c w code a b) (request-refusal-small c w code a b) (request-act-small c w code a b),
-  λ c w flag. unless-answered c (moveRefusal c w) (over (putTurn c w) (moveAct (turnOf c w) flag)) (move-refusal-small c w) (move-act-small (turnOf c w) flag),
-  λ c. unless-answered c (onRefusal c) _ (first-small _ (omega arith, (omega arith, tt))) (omega arith),
-  λ c. unless-answered c (offRefusal c) _ (first-small _ (omega arith, (omega arith, (omega arith, (omega arith, tt))))) (omega arith),
+  λ c w code a b. unless-answered c (request_refusal c w code a b) (request_act c w code a b) (request-refusal-small c w code a b) (request-act-small c w code a b),
+  λ c w flag. unless-answered c (move_refusal c w) (over (put_turn c w) (move_act (turn_of c w) flag)) (move-refusal-small c w) (move-act-small (turn_of c w) flag),
+  λ c. unless-answered c (on_refusal c) _ (first_small _ (omega arith, (omega arith, tt))) (omega arith),
+  λ c. unless-answered c (off_refusal c) _ (first_small _ (omega arith, (omega arith, (omega arith, (omega arith, tt))))) (omega arith),
 )

@@ -1,20 +1,17 @@
 -- A configuration: the state and what the lent slices hold; a worker's part of it, and putting a part back
 -- (document 01, The page).
-use Prim.Native.Nat.{ℕ}
-use mathlib.Core.Bool.{Bool, false, _&&_, cond}
-use mathlib.Core.List.{List}
-use lib.ListN.{length, getD, set, replicate}
-use Rattle·answers.specs.Numbers.{done, badPage}
-use Rattle·answers.specs.Rows.{Outcome, outcome}
-use Rattle·page.specs.Limits.{maxWorkers}
-use Rattle·page.specs.Page.{Lent, lent, keepsRulesB, workersB}
-use Rattle·lists.specs.Lists.{Lists}
-use Rattle·operations.specs.declared.Worker.{Worker}
-use Rattle·operations.specs.Operations.{record8}
-use Rattle·staged.specs.Start.{Starter, starter}
-use Rattle·staged.specs.Damage.{Turn, turn}
-use Rattle·machine·specs.specs.declared.State.{State}
-use Rattle·machine·specs.specs.declared.Reply.{Reply}
+use Rattle.std.specs.Prelude.{ℕ, Bool, false, ◌&&◌, cond, List, length, get_or, set, replicate}
+use Rattle.answers.specs.Numbers.{done, bad_page}
+use Rattle.answers.specs.Rows.{Outcome, outcome}
+use Rattle.page.specs.Limits.{max_workers}
+use Rattle.page.specs.Page.{Lent, lent, keeps_rules_b, workers_b}
+use Rattle.lists.specs.Lists.{Lists}
+use Rattle.operations.specs.declared.Worker.{Worker}
+use Rattle.operations.specs.Operations.{record8}
+use Rattle.staged.specs.Start.{Starter, starter}
+use Rattle.staged.specs.Damage.{Turn, turn}
+use Rattle.machine.specs.declared.State.{State}
+use Rattle.machine.specs.declared.Reply.{Reply}
 
 pub record Config : Type 0 where
   pub state : State
@@ -30,10 +27,10 @@ reply number v s = record { number = number; value = v; state = s }
 
 -- what came of a call: the answer and the state given back, and what the slices hold
 abbrev pub came : Reply → List ℕ → List ℕ → Outcome Config
-came r page bits = outcome (r .number) (r .value) (config (r .state) page bits)
+came r page bits = outcome r.number r.value (config r.state page bits)
 
-abbrev pub stateOf : ℕ → ℕ → ℕ → ℕ → ℕ → Bool → List Worker → State
-stateOf n bw w shared tagged on workers =
+abbrev pub state_of : ℕ → ℕ → ℕ → ℕ → ℕ → Bool → List Worker → State
+state_of n bw w shared tagged on workers =
     record { n = n; bw = bw; w = w; shared = shared; tagged = tagged; on = on; workers = workers }
 
 -- ---- a worker's part
@@ -42,54 +39,54 @@ stateOf n bw w shared tagged on workers =
 abbrev pub blank : Worker
 blank = record8 0 0 0 0 0 0 0 0
 
-abbrev pub workerOf : Config → ℕ → Worker
-workerOf c w = getD (c .state .workers) w blank
+abbrev pub worker_of : Config → ℕ → Worker
+worker_of c w = get_or c.state.workers w blank
 
-abbrev pub lentOf : Config → Lent
-lentOf c = lent (c .state .n) (c .state .bw) (c .page) (c .bits)
+abbrev pub lent_of : Config → Lent
+lent_of c = lent c.state.n c.state.bw c.page c.bits
 
-abbrev pub listsOf : Config → ℕ → Lists
-listsOf c w = record { own = workerOf c w .own; got = workerOf c w .got; lent = lentOf c }
+abbrev pub lists_of : Config → ℕ → Lists
+lists_of c w = record { own = (worker_of c w).own; got = (worker_of c w).got; lent = lent_of c }
 
-abbrev pub starterOf : Config → ℕ → Starter
-starterOf c w = starter (workerOf c w) (c .bits)
+abbrev pub starter_of : Config → ℕ → Starter
+starter_of c w = starter (worker_of c w) c.bits
 
-abbrev pub turnOf : Config → ℕ → Turn
-turnOf c w = turn (workerOf c w) (c .state .shared) (c .state .tagged) (c .state .on) (lentOf c)
+abbrev pub turn_of : Config → ℕ → Turn
+turn_of c w = turn (worker_of c w) c.state.shared c.state.tagged c.state.on (lent_of c)
 
 -- ---- putting it back
 
 -- one worker's record
-abbrev pub putWorker : State → ℕ → Worker → State
-putWorker s w k = stateOf (s .n) (s .bw) (s .w) (s .shared) (s .tagged) (s .on) (set (s .workers) w k)
+abbrev pub put_worker : State → ℕ → Worker → State
+put_worker s w k = state_of s.n s.bw s.w s.shared s.tagged s.on (set s.workers w k)
 
 -- own and got alone change
-abbrev pub withHeads : Worker → ℕ → ℕ → Worker
-withHeads k own got = record8 own got (k .operation) (k .stage) (k .tag) (k .hand) (k .seen) (k .sightings)
+abbrev pub with_heads : Worker → ℕ → ℕ → Worker
+with_heads k own got = record8 own got k.operation k.stage k.tag k.hand k.seen k.sightings
 
-abbrev pub putLists : Config → ℕ → Lists → Config
-putLists c w l = config (putWorker (c .state) w (withHeads (workerOf c w) (l .own) (l .got))) (l .lent .page) (l .lent .bits)
+abbrev pub put_lists : Config → ℕ → Lists → Config
+put_lists c w l = config (put_worker c.state w (with_heads (worker_of c w) l.own l.got)) l.lent.page l.lent.bits
 
-abbrev pub putStarter : Config → ℕ → Starter → Config
-putStarter c w k = config (putWorker (c .state) w (k .worker)) (c .page) (k .bits)
+abbrev pub put_starter : Config → ℕ → Starter → Config
+put_starter c w k = config (put_worker c.state w k.worker) c.page k.bits
 
-abbrev pub putTurn : Config → ℕ → Turn → Config
-putTurn c w t =
-    config (stateOf (c .state .n) (c .state .bw) (c .state .w) (t .shared) (t .tagged) (t .on) (set (c .state .workers) w (t .worker)))
-    (t .lent .page) (t .lent .bits)
+abbrev pub put_turn : Config → ℕ → Turn → Config
+put_turn c w t =
+    config (state_of c.state.n c.state.bw c.state.w t.shared t.tagged t.on (set c.state.workers w t.worker))
+    t.lent.page t.lent.bits
 
 -- an outcome of a part as one of the whole
 abbrev pub over : {A : Type 0} → (A → Config) → Outcome A → Outcome Config
-over put o = outcome (o .number) (o .value) (put (o .after))
+over put o = outcome o.number o.value (put o.after)
 
 -- ---- the page rules with W, and the fresh start
 
-unfoldable pub rulesB : Config → Bool
-rulesB c = keepsRulesB (lentOf c) && workersB (c .state .w)
+unfoldable pub rules_b : Config → Bool
+rules_b c = keeps_rules_b (lent_of c) && workers_b c.state.w
 
 -- heads 0, T off, workers idle
-abbrev pub freshState : ℕ → ℕ → ℕ → State
-freshState n bw w = stateOf n bw w 0 0 false (replicate maxWorkers blank)
+abbrev pub fresh_state : ℕ → ℕ → ℕ → State
+fresh_state n bw w = state_of n bw w 0 0 false (replicate max_workers blank)
 
 -- the bitmap with every word 0
 abbrev pub zeroed : List ℕ → List ℕ
@@ -97,7 +94,7 @@ zeroed bits = replicate (length bits) 0
 
 -- A fresh start zeroes the bitmap and leaves the page. Where the rules do not hold it answers 2 and the state of
 -- zeros, and writes nothing.
-unfoldable pub freshOf : ℕ → ℕ → ℕ → List ℕ → List ℕ → Outcome Config
-freshOf n bw w page bits =
-    cond (rulesB (config (freshState n bw w) page bits)) (outcome done 0 (config (freshState n bw w) page (zeroed bits)))
-    (outcome badPage 0 (config (freshState 0 0 0) page bits))
+unfoldable pub fresh_of : ℕ → ℕ → ℕ → List ℕ → List ℕ → Outcome Config
+fresh_of n bw w page bits =
+    cond (rules_b (config (fresh_state n bw w) page bits)) (outcome done 0 (config (fresh_state n bw w) page (zeroed bits)))
+    (outcome bad_page 0 (config (fresh_state 0 0 0) page bits))

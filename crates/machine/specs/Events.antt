@@ -1,47 +1,43 @@
 -- A run of events in a lent slice, each of five words: kind, worker, code, a, b. Each event's answer is two words.
-use Prim.Native.Nat.{ℕ, zero, suc, _+_, _*_, _/_, _%_}
-use mathlib.Core.Bool.{Bool, not, cond}
-use mathlib.Core.List.{List, [], _∷_}
-use lib.Dec.{ltb, eqb}
-use lib.ListN.{length, getD, set}
-use Rattle·answers.specs.Numbers.{done, badPage, noSuch, noneLeft}
-use Rattle·answers.specs.Rows.{row, first, Outcome, outcome, refused, unless}
-use Rattle·machine·specs.specs.declared.Reply.{Reply}
-use Rattle·machine·specs.specs.Config.{Config, config, rulesB}
-use Rattle·machine·specs.specs.Requests.{requestOf}
-use Rattle·machine·specs.specs.Moves.{moveOf}
-use Rattle·machine·specs.specs.Switch.{switchOnOf, switchOffOf}
+use Rattle.std.specs.Prelude.{ℕ, zero, suc, ◌+◌, ◌*◌, ◌/◌, ◌%◌, Bool, not, cond, List, [], ◌∷◌, ltb, eqb, length, get_or, set}
+use Rattle.answers.specs.Numbers.{done, bad_page, no_such, none_left}
+use Rattle.answers.specs.Rows.{row, first, Outcome, outcome, refused, unless}
+use Rattle.machine.specs.declared.Reply.{Reply}
+use Rattle.machine.specs.Config.{Config, config, rules_b}
+use Rattle.machine.specs.Requests.{request_of}
+use Rattle.machine.specs.Moves.{move_of}
+use Rattle.machine.specs.Switch.{switch_on_of, switch_off_of}
 
 -- words of an event, and of an answer
-abbrev pub eventWords : ℕ
-eventWords = 5
+abbrev pub event_words : ℕ
+event_words = 5
 
-abbrev pub answerWords : ℕ
-answerWords = 2
+abbrev pub answer_words : ℕ
+answer_words = 2
 
 -- the kinds of events
-abbrev pub aRequest : ℕ
-aRequest = 1
+abbrev pub a_request : ℕ
+a_request = 1
 
-abbrev pub aMove : ℕ
-aMove = 2
+abbrev pub a_move : ℕ
+a_move = 2
 
-abbrev pub turnsOn : ℕ
-turnsOn = 3
+abbrev pub turns_on : ℕ
+turns_on = 3
 
-abbrev pub turnsOff : ℕ
-turnsOff = 4
+abbrev pub turns_off : ℕ
+turns_off = 4
 
 -- the code of a move is its flag: set where it is not 0
-abbrev pub flagOf : ℕ → Bool
-flagOf code = not (eqb code 0)
+abbrev pub flag_of : ℕ → Bool
+flag_of code = not (eqb code 0)
 
 -- an unknown kind is answered with 4
-unfoldable pub eventOf : Config → ℕ → ℕ → ℕ → ℕ → ℕ → Outcome Config
-eventOf c kind w code a b =
-    cond (eqb kind aRequest) (requestOf c w code a b)
-    (cond (eqb kind aMove) (moveOf c w (flagOf code))
-    (cond (eqb kind turnsOn) (switchOnOf c) (cond (eqb kind turnsOff) (switchOffOf c) (refused noSuch c))))
+unfoldable pub event_of : Config → ℕ → ℕ → ℕ → ℕ → ℕ → Outcome Config
+event_of c kind w code a b =
+    cond (eqb kind a_request) (request_of c w code a b)
+    (cond (eqb kind a_move) (move_of c w (flag_of code))
+    (cond (eqb kind turns_on) (switch_on_of c) (cond (eqb kind turns_off) (switch_off_of c) (refused no_such c))))
 
 -- the configuration and the answers so far
 pub record Run : Type 0 where
@@ -52,39 +48,39 @@ abbrev pub ran : Config → List ℕ → Run
 ran c answers = record { config = c; answers = answers }
 
 -- what came of a run: the answer and the state given back, and what the slices hold
-abbrev pub cameRun : Reply → List ℕ → List ℕ → List ℕ → Outcome Run
-cameRun r page bits answers = outcome (r .number) (r .value) (ran (config (r .state) page bits) answers)
+abbrev pub came_run : Reply → List ℕ → List ℕ → List ℕ → Outcome Run
+came_run r page bits answers = outcome r.number r.value (ran (config r.state page bits) answers)
 
 -- an event's answer written in its place
 abbrev pub told : ℕ → Run → Outcome Config → Run
-told k r o = ran (o .after) (set (set (r .answers) (k * answerWords) (o .number)) (k * answerWords + 1) (o .value))
+told k r o = ran o.after (set (set r.answers (k * answer_words) o.number) (k * answer_words + 1) o.value)
 
 -- event number k of the slice
-abbrev pub eventAt : List ℕ → ℕ → Config → Outcome Config
-eventAt events k c =
-    eventOf c (getD events (k * eventWords) 0) (getD events (k * eventWords + 1) 0) (getD events (k * eventWords + 2) 0)
-    (getD events (k * eventWords + 3) 0) (getD events (k * eventWords + 4) 0)
+abbrev pub event_at : List ℕ → ℕ → Config → Outcome Config
+event_at events k c =
+    event_of c (get_or events (k * event_words) 0) (get_or events (k * event_words + 1) 0) (get_or events (k * event_words + 2) 0)
+    (get_or events (k * event_words + 3) 0) (get_or events (k * event_words + 4) 0)
 
 -- the run after it
-abbrev pub turnAt : List ℕ → ℕ → Run → Run
-turnAt events k r = told k r (eventAt events k (r .config))
+abbrev pub turn_at : List ℕ → ℕ → Run → Run
+turn_at events k r = told k r (event_at events k r.config)
 
 -- the first m events, in order
-unfoldable pub runOf : List ℕ → ℕ → Run → Run
-runOf events zero r = r
-runOf events (suc m) r = turnAt events m (runOf events m r)
+unfoldable pub run_of : List ℕ → ℕ → Run → Run
+run_of events zero r = r
+run_of events (suc m) r = turn_at events m (run_of events m r)
 
 -- 2 for the page rules, 4 for a slice of events that is cut, 10 for too few words for the answers
-unfoldable pub eventsRefusal : Config → List ℕ → List ℕ → ℕ
-eventsRefusal c events answers =
+unfoldable pub events_refusal : Config → List ℕ → List ℕ → ℕ
+events_refusal c events answers =
     first
-    (row badPage (not (rulesB c))
-    ∷ row noSuch (not (eqb (length events % eventWords) 0))
-    ∷ row noneLeft (ltb (length answers) (length events / eventWords * answerWords))
+    (row bad_page (not (rules_b c))
+    ∷ row no_such (not (eqb (length events % event_words) 0))
+    ∷ row none_left (ltb (length answers) (length events / event_words * answer_words))
     ∷ [])
 
 -- the count of events, with every answer written; refused, nothing changes
-unfoldable pub eventsOf : Run → List ℕ → Outcome Run
-eventsOf r events =
-    unless (eventsRefusal (r .config) events (r .answers)) r
-    (outcome done (length events / eventWords) (runOf events (length events / eventWords) r))
+unfoldable pub events_of : Run → List ℕ → Outcome Run
+events_of r events =
+    unless (events_refusal r.config events r.answers) r
+    (outcome done (length events / event_words) (run_of events (length events / event_words) r))

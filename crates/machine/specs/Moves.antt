@@ -1,10 +1,9 @@
 -- A move of worker w, with its flag (document 01, Requests 6 to 12).
-use Prim.Native.Nat.{ℕ}
-use mathlib.Core.Bool.{Bool}
-use Rattle·answers.specs.Rows.{Outcome, unless}
-use Rattle·staged.specs.Moves.{moveAct}
-use Rattle·machine·specs.specs.Config.{Config, turnOf, putTurn, over}
-use Rattle·machine·specs.specs.Table.{moveRefusal}
+use Rattle.std.specs.Prelude.{ℕ, Bool}
+use Rattle.answers.specs.Rows.{Outcome, unless}
+use Rattle.staged.specs.Moves.{move_act}
+use Rattle.machine.specs.Config.{Config, turn_of, put_turn, over}
+use Rattle.machine.specs.Table.{move_refusal}
 
-unfoldable pub moveOf : Config → ℕ → Bool → Outcome Config
-moveOf c w flag = unless (moveRefusal c w) c (over (putTurn c w) (moveAct (turnOf c w) flag))
+unfoldable pub move_of : Config → ℕ → Bool → Outcome Config
+move_of c w flag = unless (move_refusal c w) c (over (put_turn c w) (move_act (turn_of c w) flag))

@@ -1,29 +1,23 @@
 -- One worker's part of a request, and T's switch: its record, the head words, the switch and what is lent. W and the
 -- other workers are no part of it.
-use Prim.Native.Nat.{ℕ, _≤_, _<_}
-use mathlib.Core.Path.{_≡_}
-use mathlib.Core.Logic.{_⊎_}
-use mathlib.Core.Bool.{Bool, true, false, not, cond}
-use mathlib.Core.List.{List}
-use lib.Dec.{eqb}
-use lib.ListN.{length}
-use Rattle·answers.specs.Numbers.{done, badPage, noSuch, busy, switched, notEmpty}
-use Rattle·answers.specs.Rows.{Outcome, outcome, refused}
-use Rattle·words.specs.Tagged.{tagOf, addressOf}
-use Rattle·page.specs.Page.{Lent, lent, Rules, keepsRulesB}
-use Rattle·lists.specs.Lists.{Lists}
-use Rattle·lists.specs.Own.{insertOf, popOf, appendOf, extendOf, releaseOf, emptyOf}
-use Rattle·operations.specs.declared.Worker.{Worker}
-use Rattle·operations.specs.Operations.{stagedB, busyB}
-use Rattle·staged.specs.Start.{Starter, starter, startOf}
-use Rattle·staged.specs.Moves as staged
-use Rattle·machine·specs.specs.declared.ask.Asked.{Asked}
-use Rattle·machine·specs.specs.declared.toggle.Toggled.{Toggled}
-use Rattle·machine·specs.specs.Config.{Config, config, workerOf, lentOf, turnOf, putWorker, putTurn, withHeads, over}
-use Rattle·machine·specs.specs.Table.{insert, pop, append, extend, release, listsFitB}
-use Rattle·machine·specs.specs.Facts.{RulesFact}
-use Rattle·machine·specs.specs.Requests.{requestOf}
-use Rattle·machine·specs.specs.Moves.{moveOf}
+use Rattle.std.specs.Prelude.{ℕ, ◌≤◌, ◌<◌, ◌≡◌, ◌⊎◌, Bool, true, false, not, cond, List, eqb, length}
+use Rattle.answers.specs.Numbers.{done, bad_page, no_such, busy, switched, not_empty}
+use Rattle.answers.specs.Rows.{Outcome, outcome, refused}
+use Rattle.words.specs.Tagged.{tag_of, address_of}
+use Rattle.page.specs.Page.{Lent, lent, Rules, keeps_rules_b}
+use Rattle.lists.specs.Lists.{Lists}
+use Rattle.lists.specs.Own.{insert_of, pop_of, append_of, extend_of, release_of, empty_of}
+use Rattle.operations.specs.declared.Worker.{Worker}
+use Rattle.operations.specs.Operations.{staged_b, busy_b}
+use Rattle.staged.specs.Start.{Starter, starter, start_of}
+use Rattle.staged.specs.Moves as staged
+use Rattle.machine.specs.declared.ask.Asked.{Asked}
+use Rattle.machine.specs.declared.toggle.Toggled.{Toggled}
+use Rattle.machine.specs.Config.{Config, config, worker_of, lent_of, turn_of, put_worker, put_turn, with_heads, over}
+use Rattle.machine.specs.Table.{insert, pop, append, extend, release, lists_fit_b}
+use Rattle.machine.specs.Facts.{RulesFact}
+use Rattle.machine.specs.Requests.{request_of}
+use Rattle.machine.specs.Moves.{move_of}
 
 -- what a request may change: the worker's record, and what the slices hold
 pub record Asker : Type 0 where
@@ -39,81 +33,81 @@ asked number v k = record { number = number; value = v; worker = k }
 
 -- what a request gives back, with what the slices hold then
 abbrev pub answered : ℕ → ℕ → Asked → List ℕ → List ℕ → Outcome Asker
-answered n bw r page bits = outcome (r .number) (r .value) (asker (r .worker) (lent n bw page bits))
+answered n bw r page bits = outcome r.number r.value (asker r.worker (lent n bw page bits))
 
 -- a worker's part, and putting it back
-abbrev pub askerOf : Config → ℕ → Asker
-askerOf c w = asker (workerOf c w) (lentOf c)
+abbrev pub asker_of : Config → ℕ → Asker
+asker_of c w = asker (worker_of c w) (lent_of c)
 
-abbrev pub putAsker : Config → ℕ → Asker → Config
-putAsker c w x = config (putWorker (c .state) w (x .worker)) (x .lent .page) (x .lent .bits)
+abbrev pub put_asker : Config → ℕ → Asker → Config
+put_asker c w x = config (put_worker c.state w x.worker) x.lent.page x.lent.bits
 
 -- ---- 1 to 5 and 13
 
-abbrev pub listsIn : Asker → Lists
-listsIn x = record { own = x .worker .own; got = x .worker .got; lent = x .lent }
+abbrev pub lists_in : Asker → Lists
+lists_in x = record { own = x.worker.own; got = x.worker.got; lent = x.lent }
 
 -- own and got alone change
-abbrev pub ofLists : Asker → Outcome Lists → Outcome Asker
-ofLists x o = outcome (o .number) (o .value) (asker (withHeads (x .worker) (o .after .own) (o .after .got)) (o .after .lent))
+abbrev pub of_lists : Asker → Outcome Lists → Outcome Asker
+of_lists x o = outcome o.number o.value (asker (with_heads x.worker o.after.own o.after.got) o.after.lent)
 
 -- each as it refuses and acts
-unfoldable pub atOnceOf : Lists → ℕ → ℕ → ℕ → Outcome Lists
-atOnceOf l code a b =
-    cond (eqb code insert) (insertOf l a)
-    (cond (eqb code pop) (popOf l)
-    (cond (eqb code append) (appendOf l)
-    (cond (eqb code extend) (extendOf l a b) (cond (eqb code release) (releaseOf l) (emptyOf l)))))
+unfoldable pub at_once_of : Lists → ℕ → ℕ → ℕ → Outcome Lists
+at_once_of l code a b =
+    cond (eqb code insert) (insert_of l a)
+    (cond (eqb code pop) (pop_of l)
+    (cond (eqb code append) (append_of l)
+    (cond (eqb code extend) (extend_of l a b) (cond (eqb code release) (release_of l) (empty_of l)))))
 
 -- ---- 6 to 12
 
-abbrev pub starterIn : Asker → Starter
-starterIn x = starter (x .worker) (x .lent .bits)
+abbrev pub starter_in : Asker → Starter
+starter_in x = starter x.worker x.lent.bits
 
 -- no page word changes
-abbrev pub ofStarter : Asker → Outcome Starter → Outcome Asker
-ofStarter x o = outcome (o .number) (o .value) (asker (o .after .worker) (lent (x .lent .n) (x .lent .bw) (x .lent .page) (o .after .bits)))
+abbrev pub of_starter : Asker → Outcome Starter → Outcome Asker
+of_starter x o = outcome o.number o.value (asker o.after.worker (lent x.lent.n x.lent.bw x.lent.page o.after.bits))
 
 -- ---- any request, of a worker that there is
 
 -- 1 to 5 and 13: refused with 2, 4 or 5, or it acts at once; no other is known here. under: the worker has an
 -- operation under way
-unfoldable pub askListsOf : Bool → Lists → ℕ → ℕ → ℕ → Outcome Lists
-askListsOf under l code a b =
-    cond (not (keepsRulesB (l .lent))) (refused badPage l)
-    (cond (not (listsFitB (l .lent .n) code a b)) (refused noSuch l) (cond under (refused busy l) (atOnceOf l code a b)))
+unfoldable pub ask_lists_of : Bool → Lists → ℕ → ℕ → ℕ → Outcome Lists
+ask_lists_of under l code a b =
+    cond (not (keeps_rules_b l.lent)) (refused bad_page l)
+    (cond (not (lists_fit_b l.lent.n code a b)) (refused no_such l) (cond under (refused busy l) (at_once_of l code a b)))
 
-unfoldable pub askOf : Bool → Asker → ℕ → ℕ → ℕ → Outcome Asker
-askOf on x code a b =
-    cond (not (keepsRulesB (x .lent))) (refused badPage x)
-    (cond (stagedB code) (ofStarter x (startOf (x .lent .n) (x .lent .bw) (length (x .lent .page)) on (starterIn x) code a))
-    (ofLists x (askListsOf (busyB (x .worker)) (listsIn x) code a b)))
+unfoldable pub ask_of : Bool → Asker → ℕ → ℕ → ℕ → Outcome Asker
+ask_of on x code a b =
+    cond (not (keeps_rules_b x.lent)) (refused bad_page x)
+    (cond (staged_b code) (of_starter x (start_of x.lent.n x.lent.bw (length x.lent.page) on (starter_in x) code a))
+    (of_lists x (ask_lists_of (busy_b x.worker) (lists_in x) code a b)))
 
 -- ---- the whole by its parts
 
 -- past the page rules and the worker, a request is its worker's part of it
 abbrev pub RequestsByPart : Type 0
 RequestsByPart =
-    (c : Config) (w code a b : ℕ) → RulesFact c → w < c .state .w
-    → over (putAsker c w) (askOf (c .state .on) (askerOf c w) code a b) ≡ requestOf c w code a b
+    (c : Config) (w code a b : ℕ) → RulesFact c → w < c.state.w
+    → over (put_asker c w) (ask_of c.state.on (asker_of c w) code a b) ≡ request_of c w code a b
 
 -- of those that act at once, it is the lists' part
 abbrev pub AsksOfLists : Type 0
 AsksOfLists =
     (on : Bool) (x : Asker) (code a b : ℕ) → (code < 6) ⊎ (12 < code)
-    → askOf on x code a b ≡ ofLists x (askListsOf (busyB (x .worker)) (listsIn x) code a b)
+    → ask_of on x code a b ≡ of_lists x (ask_lists_of (busy_b x.worker) (lists_in x) code a b)
 
 -- where the page rules are broken a part is refused with 2, and where they hold the lists' part knows no request of 6
 -- to 12
 pub record PartsRefuse : Type 0 where
-  pub broken : (on : Bool) (x : Asker) (code a b : ℕ) → (Rules (x .lent) → ⊥) → askOf on x code a b ≡ refused 2 x
-  pub brokenLists : (under : Bool) (l : Lists) (code a b : ℕ) → (Rules (l .lent) → ⊥) → askListsOf under l code a b ≡ refused 2 l
-  pub unknown : (under : Bool) (l : Lists) (code a b : ℕ) → Rules (l .lent) → 6 ≤ code → code ≤ 12 → askListsOf under l code a b ≡ refused 4 l
+  pub broken : (on : Bool) (x : Asker) (code a b : ℕ) → (Rules x.lent → ⊥) → ask_of on x code a b ≡ refused 2 x
+  pub broken_lists : (under : Bool) (l : Lists) (code a b : ℕ) → (Rules l.lent → ⊥) → ask_lists_of under l code a b ≡ refused 2 l
+  pub unknown : (under : Bool) (l : Lists) (code a b : ℕ) → Rules l.lent → 6 ≤ code → code ≤ 12 → ask_lists_of under l code a b ≡ refused 4 l
 
 -- and a move is its worker's turn
 abbrev pub MovesByTurn : Type 0
 MovesByTurn =
-    (c : Config) (w : ℕ) (flag : Bool) → RulesFact c → w < c .state .w → over (putTurn c w) (staged.moveOf (turnOf c w) flag) ≡ moveOf c w flag
+    (c : Config) (w : ℕ) (flag : Bool) → RulesFact c → w < c.state.w → over (put_turn c w) (staged.move_of (turn_of c w) flag) ≡ move_of c w flag
 
 -- ---- T's switch: its word and whether it is on
 
@@ -121,12 +115,12 @@ MovesByTurn =
 abbrev pub toggled : ℕ → ℕ → ℕ → Bool → Toggled
 toggled number v tagged on = record { number = number; value = v; tagged = tagged; on = on }
 
-unfoldable pub toggleOnOf : ℕ → Bool → Toggled
-toggleOnOf tagged on = cond on (toggled switched 0 tagged on) (toggled done 0 0 true)
+unfoldable pub toggle_on_of : ℕ → Bool → Toggled
+toggle_on_of tagged on = cond on (toggled switched 0 tagged on) (toggled done 0 0 true)
 
 -- any: a worker has an operation under way
-unfoldable pub toggleOffOf : Bool → ℕ → Bool → Toggled
-toggleOffOf any tagged on =
+unfoldable pub toggle_off_of : Bool → ℕ → Bool → Toggled
+toggle_off_of any tagged on =
     cond any (toggled busy 0 tagged on)
     (cond (not on) (toggled switched 0 tagged on)
-    (cond (not (eqb (addressOf tagged) 0)) (toggled notEmpty 0 tagged on) (toggled done (tagOf tagged) 0 false)))
+    (cond (not (eqb (address_of tagged) 0)) (toggled not_empty 0 tagged on) (toggled done (tag_of tagged) 0 false)))

@@ -1,20 +1,17 @@
 -- Document 01's table, row by row, the smallest number first: one public list of rows for requests, for moves and for
 -- the switch (document 01, Numbers given back).
-use Prim.Native.Nat.{ℕ, zero, suc}
-use mathlib.Core.Bool.{Bool, false, not, _&&_, _||_, cond}
-use mathlib.Core.List.{List, [], _∷_}
-use lib.Dec.{ltb, eqb}
-use Rattle·answers.specs.Numbers.{badPage, noWorker, noSuch, busy, idle, switched, notEmpty, listed, noneLeft, damaged}
-use Rattle·answers.specs.Rows.{Row, row, first}
-use Rattle·words.specs.Tagged.{addressOf}
-use Rattle·bitmap.specs.Bitmap.{anyFrom}
-use Rattle·page.specs.Page.{blockB, runB, listedB, linkAt, soundIn}
-use Rattle·page.specs.Walk.{walkOf}
-use Rattle·operations.specs.declared.Worker.{Worker}
-use Rattle·operations.specs.Operations.{stagedB, pushesB, offB, fullB, busyB}
-use Rattle·staged.specs.Start.{startFitsB}
-use Rattle·staged.specs.Damage.{damagedB}
-use Rattle·machine·specs.specs.Config.{Config, workerOf, lentOf, turnOf, rulesB}
+use Rattle.std.specs.Prelude.{ℕ, zero, suc, Bool, false, not, ◌&&◌, ◌||◌, cond, List, [], ◌∷◌, ltb, eqb}
+use Rattle.answers.specs.Numbers.{bad_page, no_worker, no_such, busy, idle, switched, not_empty, listed, none_left, damaged}
+use Rattle.answers.specs.Rows.{Row, row, first}
+use Rattle.words.specs.Tagged.{address_of}
+use Rattle.bitmap.specs.Bitmap.{any_from}
+use Rattle.page.specs.Page.{block_b, run_b, listed_b, link_at, sound_in}
+use Rattle.page.specs.Walk.{walk_of}
+use Rattle.operations.specs.declared.Worker.{Worker}
+use Rattle.operations.specs.Operations.{staged_b, pushes_b, off_b, full_b, busy_b}
+use Rattle.staged.specs.Start.{start_fits_b}
+use Rattle.staged.specs.Damage.{damaged_b}
+use Rattle.machine.specs.Config.{Config, worker_of, lent_of, turn_of, rules_b}
 
 -- ---- the requests that act at once
 
@@ -33,105 +30,105 @@ extend = 4
 abbrev pub release : ℕ
 release = 5
 
-abbrev pub askEmpty : ℕ
-askEmpty = 13
+abbrev pub ask_empty : ℕ
+ask_empty = 13
 
 -- ---- what the rows ask
 
 -- the arguments that a request of 1 to 5 or 13 asks for; no other request has any of these
-abbrev pub listsFitB : ℕ → ℕ → ℕ → ℕ → Bool
-listsFitB n code a b =
-    cond (eqb code insert) (blockB n a)
-    (cond (eqb code extend) (runB n a b) (eqb code pop || eqb code append || eqb code release || eqb code askEmpty))
+abbrev pub lists_fit_b : ℕ → ℕ → ℕ → ℕ → Bool
+lists_fit_b n code a b =
+    cond (eqb code insert) (block_b n a)
+    (cond (eqb code extend) (run_b n a b) (eqb code pop || eqb code append || eqb code release || eqb code ask_empty))
 
 -- the arguments that a request's code asks for
-unfoldable pub argumentsFitB : ℕ → ℕ → ℕ → ℕ → Bool
-argumentsFitB n code a b = cond (stagedB code) (startFitsB n code a) (listsFitB n code a b)
+unfoldable pub arguments_fit_b : ℕ → ℕ → ℕ → ℕ → Bool
+arguments_fit_b n code a b = cond (staged_b code) (start_fits_b n code a) (lists_fit_b n code a b)
 
 -- the blocks that a request names: a, or for extend a to a+b−1
-unfoldable pub anyNamed : (ℕ → Bool) → ℕ → ℕ → ℕ → Bool
-anyNamed is code a b = ((eqb code insert || pushesB code) && is a) || (eqb code extend && anyFrom is a b)
+unfoldable pub any_named : (ℕ → Bool) → ℕ → ℕ → ℕ → Bool
+any_named is code a b = ((eqb code insert || pushes_b code) && is a) || (eqb code extend && any_from is a b)
 
 -- ---- the tests on a configuration
 
 -- an own head that is not sound (insert, pop, extend, append with got not empty; release walks from it)
-unfoldable pub ownUnsound : Config → ℕ → ℕ → Bool
-ownUnsound c w code =
-    (eqb code insert || eqb code pop || eqb code extend || (eqb code append && not (eqb (workerOf c w .got) 0))) && not (soundIn (lentOf c) (workerOf c w .own))
+unfoldable pub own_unsound : Config → ℕ → ℕ → Bool
+own_unsound c w code =
+    (eqb code insert || eqb code pop || eqb code extend || (eqb code append && not (eqb (worker_of c w).got 0))) && not (sound_in (lent_of c) (worker_of c w).own)
 
 -- a pop looks at the link of own's front too
-unfoldable pub linkUnsound : Config → ℕ → ℕ → Bool
-linkUnsound c w code = eqb code pop && not (soundIn (lentOf c) (linkAt (c .page) (workerOf c w .own)))
+unfoldable pub link_unsound : Config → ℕ → ℕ → Bool
+link_unsound c w code = eqb code pop && not (sound_in (lent_of c) (link_at c.page (worker_of c w).own))
 
 -- an append walks got, and a release own
-unfoldable pub walkBroken : Config → ℕ → ℕ → Bool
-walkBroken c w code =
-    (eqb code append && not (eqb (workerOf c w .got) 0) && not (walkOf (lentOf c) (workerOf c w .got) .ends))
-    || (eqb code release && not (walkOf (lentOf c) (workerOf c w .own) .ends))
+unfoldable pub walk_broken : Config → ℕ → ℕ → Bool
+walk_broken c w code =
+    (eqb code append && not (eqb (worker_of c w).got 0) && not (walk_of (lent_of c) (worker_of c w).got).ends)
+    || (eqb code release && not (walk_of (lent_of c) (worker_of c w).own).ends)
 
 -- damaged, at a request
-unfoldable pub requestDamagedB : Config → ℕ → ℕ → Bool
-requestDamagedB c w code = ownUnsound c w code || linkUnsound c w code || walkBroken c w code
+unfoldable pub request_damaged_b : Config → ℕ → ℕ → Bool
+request_damaged_b c w code = own_unsound c w code || link_unsound c w code || walk_broken c w code
 
 -- ---- the rows of a request
 
-unfoldable pub requestRows : Config → ℕ → ℕ → ℕ → ℕ → List Row
-requestRows c w code a b =
+unfoldable pub request_rows : Config → ℕ → ℕ → ℕ → ℕ → List Row
+request_rows c w code a b =
     -- the page rules do not hold
-    row badPage (not (rulesB c))
+    row bad_page (not (rules_b c))
     -- no such worker
-    ∷ row noWorker (not (ltb w (c .state .w)))
+    ∷ row no_worker (not (ltb w c.state.w))
     -- no request has this number, or its arguments do not fit
-    ∷ row noSuch (not (argumentsFitB (c .state .n) code a b))
+    ∷ row no_such (not (arguments_fit_b c.state.n code a b))
     -- the worker's operation is under way
-    ∷ row busy (busyB (workerOf c w))
+    ∷ row busy (busy_b (worker_of c w))
     -- operation on T while off
-    ∷ row switched (offB code (c .state .on))
+    ∷ row switched (off_b code c.state.on)
     -- take while got is not empty
-    ∷ row notEmpty (fullB code (workerOf c w .got))
+    ∷ row not_empty (full_b code (worker_of c w).got)
     -- a named block's bit is set
-    ∷ row listed (anyNamed (listedB (c .bits)) code a b)
+    ∷ row listed (any_named (listed_b c.bits) code a b)
     -- pop with own empty
-    ∷ row noneLeft (eqb code pop && eqb (workerOf c w .own) 0)
+    ∷ row none_left (eqb code pop && eqb (worker_of c w).own 0)
     -- damaged
-    ∷ row damaged (requestDamagedB c w code)
+    ∷ row damaged (request_damaged_b c w code)
     ∷ []
 
-abbrev pub requestRefusal : Config → ℕ → ℕ → ℕ → ℕ → ℕ
-requestRefusal c w code a b = first (requestRows c w code a b)
+abbrev pub request_refusal : Config → ℕ → ℕ → ℕ → ℕ → ℕ
+request_refusal c w code a b = first (request_rows c w code a b)
 
 -- ---- the rows of a move: 2, 3, 6 and 11
 
-unfoldable pub moveRows : Config → ℕ → List Row
-moveRows c w =
-    row badPage (not (rulesB c)) ∷ row noWorker (not (ltb w (c .state .w))) ∷ row idle (not (busyB (workerOf c w))) ∷ row damaged (damagedB (turnOf c w)) ∷ []
+unfoldable pub move_rows : Config → ℕ → List Row
+move_rows c w =
+    row bad_page (not (rules_b c)) ∷ row no_worker (not (ltb w c.state.w)) ∷ row idle (not (busy_b (worker_of c w))) ∷ row damaged (damaged_b (turn_of c w)) ∷ []
 
-abbrev pub moveRefusal : Config → ℕ → ℕ
-moveRefusal c w = first (moveRows c w)
+abbrev pub move_refusal : Config → ℕ → ℕ
+move_refusal c w = first (move_rows c w)
 
 -- ---- the switch
 
 -- any of the first m workers has an operation under way
-unfoldable pub anyBusy : List Worker → ℕ → Bool
-anyBusy [] m = false
-anyBusy (k ∷ ks) zero = false
-anyBusy (k ∷ ks) (suc m) = busyB k || anyBusy ks m
+unfoldable pub any_busy : List Worker → ℕ → Bool
+any_busy [] m = false
+any_busy (k ∷ ks) zero = false
+any_busy (k ∷ ks) (suc m) = busy_b k || any_busy ks m
 
 -- switching on while on
-unfoldable pub onRows : Config → List Row
-onRows c = row badPage (not (rulesB c)) ∷ row switched (c .state .on) ∷ []
+unfoldable pub on_rows : Config → List Row
+on_rows c = row bad_page (not (rules_b c)) ∷ row switched c.state.on ∷ []
 
-abbrev pub onRefusal : Config → ℕ
-onRefusal c = first (onRows c)
+abbrev pub on_refusal : Config → ℕ
+on_refusal c = first (on_rows c)
 
 -- switching off while any worker has an operation under way, while off, or while T's address part is not 0
-unfoldable pub offRows : Config → List Row
-offRows c =
-    row badPage (not (rulesB c))
-    ∷ row busy (anyBusy (c .state .workers) (c .state .w))
-    ∷ row switched (not (c .state .on))
-    ∷ row notEmpty (not (eqb (addressOf (c .state .tagged)) 0))
+unfoldable pub off_rows : Config → List Row
+off_rows c =
+    row bad_page (not (rules_b c))
+    ∷ row busy (any_busy c.state.workers c.state.w)
+    ∷ row switched (not c.state.on)
+    ∷ row not_empty (not (eqb (address_of c.state.tagged) 0))
     ∷ []
 
-abbrev pub offRefusal : Config → ℕ
-offRefusal c = first (offRows c)
+abbrev pub off_refusal : Config → ℕ
+off_refusal c = first (off_rows c)

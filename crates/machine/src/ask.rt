@@ -1,32 +1,20 @@
 // A worker's part of a request: its record, the switch and the lent slices. No public function has a requires; W and
 // the other workers are no part of it.
-ghost use mathlib.Core.Path.{_≡_};
-ghost use mathlib.Core.Bool.{cond};
-ghost use Rattle·answers.specs.Numbers.{badPage};
-ghost use Rattle·page.specs.Page.{lent, fitsB};
-ghost use Rattle·lists.specs.Lists.{lists, came};
-ghost use Rattle·operations.specs.Operations.{busyB};
-ghost use Rattle·machine·specs.specs.Table.{listsFitB};
-ghost use Rattle·machine·specs.specs.Config.{withHeads};
-ghost use Rattle·machine·specs.specs.Parts.{asked, asker, answered, atOnceOf, askListsOf, askOf};
-use answers::BAD_PAGE;
-use answers::BUSY;
-use answers::NO_SUCH;
-use lists::Heads;
-use lists::append;
-use lists::insert_block;
-use lists::is_empty;
-use lists::make_empty;
-use lists::pop_block;
-use lists::prepend_contiguous_blocks;
-use lists::refuse;
-use operations::AWAIT_TAG;
-use operations::PUSH_SHARED;
-use operations::Worker;
-use operations::is_busy;
-use page::fits;
-use page::is_block;
-use page::is_run;
+ghost use Rattle.std.specs.Prelude.{◌≡◌, cond};
+ghost use Rattle.answers.specs.Numbers.{bad_page};
+ghost use Rattle.page.specs.Page.{lent, fits_b};
+ghost use Rattle.lists.specs.Lists.{lists, came};
+ghost use Rattle.operations.specs.Operations.{busy_b};
+ghost use Rattle.machine.specs.Table.{lists_fit_b};
+ghost use Rattle.machine.specs.Config.{with_heads};
+ghost use Rattle.machine.specs.Parts.{asked, asker, answered, at_once_of, ask_lists_of, ask_of};
+
+use answers::{BAD_PAGE, BUSY, NO_SUCH};
+use lists::{
+    Heads, append, insert_block, is_empty, make_empty, pop_block, prepend_contiguous_blocks, refuse,
+};
+use operations::{AWAIT_TAG, PUSH_SHARED, Worker, is_busy};
+use page::{fits, is_block, is_run};
 use staged::start::start;
 
 pub const INSERT: u64 = 1;
@@ -42,6 +30,7 @@ pub const RELEASE: u64 = 5;
 pub const ASK_EMPTY: u64 = 13;
 
 // What a request gives back: its answer and the worker's record.
+#[derive(Clone, Copy)]
 pub struct Asked {
     pub number: u64,
     pub value: u64,
@@ -50,7 +39,7 @@ pub struct Asked {
 
 // Whether a request is one of 1 to 5 or 13, and has the block or the run that it asks for.
 fn lists_fit(n: u64, code: u64, a: u64, b: u64) -> bool
-    ensures { λ r. ⌜ r ≡ listsFitB n code a b ⌝ }
+    ensures { result ≡ lists_fit_b n code a b }
 {
     match code {
         INSERT => is_block(n, a),
@@ -74,7 +63,7 @@ fn at_once(
     a: u64,
     b: u64,
 ) -> Heads
-    ensures { λ r. ⌜ came n bw r (now (page .exit)) (now (bits .exit)) ≡ atOnceOf (lists own got n bw (now (page .entry)) (now (bits .entry))) code a b ⌝ }
+    ensures { came n bw result page.new bits.new ≡ at_once_of (lists own got n bw page.old bits.old) code a b }
 {
     match code {
         INSERT => insert_block(own, got, n, bw, page, bits, a),
@@ -88,7 +77,7 @@ fn at_once(
 
 // Own and got alone change.
 pub fn with_heads(k: Worker, own: u64, got: u64) -> Worker
-    ensures { λ r. ⌜ r ≡ withHeads k own got ⌝ }
+    ensures { result ≡ with_heads k own got }
 {
     let mut next = k;
     next.own = own;
@@ -98,7 +87,7 @@ pub fn with_heads(k: Worker, own: u64, got: u64) -> Worker
 
 // The number of a refusal: 2 where the page rules are broken.
 fn unless_broken(n: u64, bw: u64, page_words: usize, bits_words: usize, number: u64) -> u64
-    ensures { λ r. ⌜ r ≡ cond (fitsB n bw «page_words» «bits_words») number badPage ⌝ }
+    ensures { result ≡ cond (fits_b n bw page_words bits_words) number bad_page }
 {
     if fits(n, bw, page_words, bits_words) {
         return number;
@@ -119,7 +108,7 @@ pub fn ask_lists(
     a: u64,
     b: u64,
 ) -> Heads
-    ensures { λ r. ⌜ came n bw r (now (page .exit)) (now (bits .exit)) ≡ askListsOf (busyB k) (lists (k .own) (k .got) n bw (now (page .entry)) (now (bits .entry))) code a b ⌝ }
+    ensures { came n bw result page.new bits.new ≡ ask_lists_of (busy_b k) (lists k.own k.got n bw page.old bits.old) code a b }
 {
     if !lists_fit(n, code, a, b) {
         let number = unless_broken(n, bw, page.len(), bits.len(), NO_SUCH);
@@ -134,7 +123,7 @@ pub fn ask_lists(
 
 // An answer and a record.
 fn give(number: u64, value: u64, worker: Worker) -> Asked
-    ensures { λ r. ⌜ r ≡ asked number value worker ⌝ }
+    ensures { result ≡ asked number value worker }
 {
     Asked {
         number,
@@ -156,7 +145,7 @@ pub fn ask(
     a: u64,
     b: u64,
 ) -> Asked
-    ensures { λ r. ⌜ answered n bw r (now (page .exit)) (now (bits .exit)) ≡ askOf on (asker k (lent n bw (now (page .entry)) (now (bits .entry)))) code a b ⌝ }
+    ensures { answered n bw result page.new bits.new ≡ ask_of on (asker k (lent n bw page.old bits.old)) code a b }
 {
     match code {
         INSERT..=RELEASE | ASK_EMPTY => {

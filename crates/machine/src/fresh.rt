@@ -1,17 +1,15 @@
 // The fresh start. No public function has a requires.
-ghost use mathlib.Core.Path.{_≡_};
-ghost use Rattle·machine·specs.specs.Config.{came, freshState, zeroed, freshOf};
-use crate::RECORDS;
-use crate::Reply;
-use crate::State;
-use answers::BAD_PAGE;
-use answers::DONE;
+ghost use Rattle.std.specs.Prelude.{◌≡◌};
+ghost use Rattle.machine.specs.Config.{came, fresh_state, zeroed, fresh_of};
+
+use crate::{RECORDS, Reply, State};
+use answers::{BAD_PAGE, DONE};
 use operations::Worker;
 use readers::rules;
 
 // Heads 0, T off, workers idle.
 fn at_rest(n: u64, bw: u64, w: u64) -> State
-    ensures { λ r. ⌜ r ≡ freshState n bw w ⌝ }
+    ensures { result ≡ fresh_state n bw w }
 {
     let blank = Worker {
         own: 0,
@@ -36,7 +34,7 @@ fn at_rest(n: u64, bw: u64, w: u64) -> State
 
 // Writes 0 to every word of the bitmap.
 fn zero_all(bits: &mut [u64])
-    ensures { λ r. ⌜ now (bits .exit) ≡ zeroed (now (bits .entry)) ⌝ }
+    ensures { bits.new ≡ zeroed bits.old }
 {
     let mut k = 0;
     while k < bits.len() {
@@ -47,7 +45,7 @@ fn zero_all(bits: &mut [u64])
 
 // A fresh state over a zeroed bitmap. Refused with 2 it answers the state of zeros, and nothing is written.
 pub fn fresh(n: u64, bw: u64, w: u64, page: &[u64], bits: &mut [u64]) -> Reply
-    ensures { λ r. ⌜ came r (now (page .entry)) (now (bits .exit)) ≡ freshOf n bw w (now (page .entry)) (now (bits .entry)) ⌝ }
+    ensures { came result page.now bits.new ≡ fresh_of n bw w page.now bits.old }
 {
     if !rules(n, bw, w, page.len(), bits.len()) {
         return Reply {

@@ -1,15 +1,14 @@
 // What calls ask first: whether a worker is busy. A refusal gives the state back.
-ghost use mathlib.Core.Path.{_≡_};
-ghost use Rattle·machine·specs.specs.Config.{reply};
-ghost use Rattle·machine·specs.specs.Table.{anyBusy};
-use crate::RECORDS;
-use crate::Reply;
-use crate::State;
+ghost use Rattle.std.specs.Prelude.{◌≡◌};
+ghost use Rattle.machine.specs.Config.{reply};
+ghost use Rattle.machine.specs.Table.{any_busy};
+
+use crate::{RECORDS, Reply, State};
 use operations::is_busy;
 
 // Whether any of the first W workers has an operation under way.
 pub fn any_busy(state: State) -> bool
-    ensures { λ r. ⌜ r ≡ anyBusy (state .workers) (state .w) ⌝ }
+    ensures { result ≡ any_busy state.workers state.w }
 {
     let w = state.w;
     let mut i: usize = 0;
@@ -28,7 +27,7 @@ pub fn any_busy(state: State) -> bool
 
 // A refusal: the state stays.
 pub fn refuse(number: u64, state: State) -> Reply
-    ensures { λ r. ⌜ r ≡ reply number 0 state ⌝ }
+    ensures { result ≡ reply number 0 state }
 {
     Reply {
         number,

@@ -1,5 +1,7 @@
 // The whole machine over a State, the page and the bitmap. No public function has a requires: each refuses by document
 // 01's numbers, the smallest first, and a refusal changes nothing.
+#![tactic(auto)]
+
 use operations::Worker;
 
 pub mod ask;
@@ -14,6 +16,7 @@ mod toggle;
 pub const RECORDS: usize = 8;
 
 // The state: the page's numbers, the shared head, the tagged word and its switch, and the worker records.
+#[derive(Clone, Copy)]
 pub struct State {
     pub n: u64,
     pub bw: u64,
@@ -25,6 +28,7 @@ pub struct State {
 }
 
 // An answer and the state after it.
+#[derive(Clone, Copy)]
 pub struct Reply {
     pub number: u64,
     pub value: u64,

@@ -1,18 +1,17 @@
 // A move of a worker, with the state by value. No public function has a requires.
-ghost use mathlib.Core.Path.{_≡_};
-ghost use Rattle·machine·specs.specs.Config.{config, came};
-ghost use Rattle·machine·specs.specs.Moves.{moveOf};
-use crate::Reply;
-use crate::State;
+ghost use Rattle.std.specs.Prelude.{◌≡◌};
+ghost use Rattle.machine.specs.Config.{config, came};
+ghost use Rattle.machine.specs.Moves.{move_of};
+
 use crate::guards::refuse;
-use answers::BAD_PAGE;
-use answers::NO_WORKER;
+use crate::{Reply, State};
+use answers::{BAD_PAGE, NO_WORKER};
 use readers::rules;
 use staged::moves::make;
 
 // Makes one move of a worker. Where the flag is set, an exchange fails.
 pub fn make_move(state: State, worker: u64, flag: bool, page: &mut [u64], bits: &[u64]) -> Reply
-    ensures { λ r. ⌜ came r (now (page .exit)) (now (bits .entry)) ≡ moveOf (config state (now (page .entry)) (now (bits .entry))) worker flag ⌝ }
+    ensures { came result page.new bits.now ≡ move_of (config state page.old bits.now) worker flag }
 {
     if !rules(state.n, state.bw, state.w, page.len(), bits.len()) {
         return refuse(BAD_PAGE, state);

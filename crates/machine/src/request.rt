@@ -1,13 +1,12 @@
 // A request to a worker, with the state by value. No public function has a requires.
-ghost use mathlib.Core.Path.{_≡_};
-ghost use Rattle·machine·specs.specs.Config.{config, came};
-ghost use Rattle·machine·specs.specs.Requests.{requestOf};
-use crate::Reply;
-use crate::State;
+ghost use Rattle.std.specs.Prelude.{◌≡◌};
+ghost use Rattle.machine.specs.Config.{config, came};
+ghost use Rattle.machine.specs.Requests.{request_of};
+
 use crate::ask::ask;
 use crate::guards::refuse;
-use answers::BAD_PAGE;
-use answers::NO_WORKER;
+use crate::{Reply, State};
+use answers::{BAD_PAGE, NO_WORKER};
 use readers::rules;
 
 // Asks something of a worker: requests 1 to 5 and 13 act at once, 6 to 12 start.
@@ -20,7 +19,7 @@ pub fn request(
     page: &mut [u64],
     bits: &mut [u64],
 ) -> Reply
-    ensures { λ r. ⌜ came r (now (page .exit)) (now (bits .exit)) ≡ requestOf (config state (now (page .entry)) (now (bits .entry))) worker code a b ⌝ }
+    ensures { came result page.new bits.new ≡ request_of (config state page.old bits.old) worker code a b }
 {
     if !rules(state.n, state.bw, state.w, page.len(), bits.len()) {
         return refuse(BAD_PAGE, state);

@@ -1,20 +1,17 @@
 // T switched on and off. No public function has a requires.
-ghost use mathlib.Core.Path.{_≡_};
-ghost use Rattle·machine·specs.specs.Config.{config, came, reply, stateOf};
-ghost use Rattle·machine·specs.specs.Switch.{switchOnOf, switchOffOf};
-use crate::Reply;
-use crate::State;
-use crate::guards::any_busy;
-use crate::guards::refuse;
-use crate::toggle::Toggled;
-use crate::toggle::toggle_off;
-use crate::toggle::toggle_on;
+ghost use Rattle.std.specs.Prelude.{◌≡◌};
+ghost use Rattle.machine.specs.Config.{config, came, reply, state_of};
+ghost use Rattle.machine.specs.Switch.{switch_on_of, switch_off_of};
+
+use crate::guards::{any_busy, refuse};
+use crate::toggle::{Toggled, toggle_off, toggle_on};
+use crate::{Reply, State};
 use answers::BAD_PAGE;
 use readers::rules;
 
 // The answer, with T's word and its switch in the state.
 fn with_toggled(state: State, t: Toggled) -> Reply
-    ensures { λ r. ⌜ r ≡ reply (t .number) (t .value) (stateOf (state .n) (state .bw) (state .w) (state .shared) (t .tagged) (t .on) (state .workers)) ⌝ }
+    ensures { result ≡ reply t.number t.value (state_of state.n state.bw state.w state.shared t.tagged t.on state.workers) }
 {
     let mut next = state;
     next.tagged = t.tagged;
@@ -28,7 +25,7 @@ fn with_toggled(state: State, t: Toggled) -> Reply
 
 // Switches T on: it becomes 0.
 pub fn switch_on(state: State, page: &[u64], bits: &[u64]) -> Reply
-    ensures { λ r. ⌜ came r (now (page .entry)) (now (bits .entry)) ≡ switchOnOf (config state (now (page .entry)) (now (bits .entry))) ⌝ }
+    ensures { came result page.now bits.now ≡ switch_on_of (config state page.now bits.now) }
 {
     if !rules(state.n, state.bw, state.w, page.len(), bits.len()) {
         return refuse(BAD_PAGE, state);
@@ -39,7 +36,7 @@ pub fn switch_on(state: State, page: &[u64], bits: &[u64]) -> Reply
 
 // Switches T off: the tag is told, and T becomes 0. A T that holds a list is refused, and not dropped.
 pub fn switch_off(state: State, page: &[u64], bits: &[u64]) -> Reply
-    ensures { λ r. ⌜ came r (now (page .entry)) (now (bits .entry)) ≡ switchOffOf (config state (now (page .entry)) (now (bits .entry))) ⌝ }
+    ensures { came result page.now bits.now ≡ switch_off_of (config state page.now bits.now) }
 {
     if !rules(state.n, state.bw, state.w, page.len(), bits.len()) {
         return refuse(BAD_PAGE, state);

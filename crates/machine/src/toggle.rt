@@ -1,15 +1,13 @@
 // T switched on and off: its word and its switch alone. `switch` tests the page rules, and no other crate reaches
 // this.
-ghost use mathlib.Core.Path.{_≡_};
-ghost use Rattle·machine·specs.specs.Parts.{toggled, toggleOnOf, toggleOffOf};
-use answers::BUSY;
-use answers::DONE;
-use answers::NOT_EMPTY;
-use answers::SWITCHED;
-use words::masked_ptr_delay_get_delay;
-use words::masked_ptr_delay_get_ptr;
+ghost use Rattle.std.specs.Prelude.{◌≡◌};
+ghost use Rattle.machine.specs.Parts.{toggled, toggle_on_of, toggle_off_of};
+
+use answers::{BUSY, DONE, NOT_EMPTY, SWITCHED};
+use words::{masked_ptr_delay_get_delay, masked_ptr_delay_get_ptr};
 
 // The answer, T's word and its switch after it.
+#[derive(Clone, Copy)]
 pub struct Toggled {
     pub number: u64,
     pub value: u64,
@@ -19,7 +17,7 @@ pub struct Toggled {
 
 // A refusal: T stays.
 fn refuse(number: u64, tagged: u64, on: bool) -> Toggled
-    ensures { λ r. ⌜ r ≡ toggled number 0 tagged on ⌝ }
+    ensures { result ≡ toggled number 0 tagged on }
 {
     Toggled {
         number,
@@ -31,7 +29,7 @@ fn refuse(number: u64, tagged: u64, on: bool) -> Toggled
 
 // Switches T on; its word becomes 0.
 pub fn toggle_on(tagged: u64, on: bool) -> Toggled
-    ensures { λ r. ⌜ r ≡ toggleOnOf tagged on ⌝ }
+    ensures { result ≡ toggle_on_of tagged on }
 {
     if on {
         return refuse(SWITCHED, tagged, on);
@@ -46,7 +44,7 @@ pub fn toggle_on(tagged: u64, on: bool) -> Toggled
 
 // Switches T off, unless a worker is busy or T's address part is not 0; the tag is the value, and the word becomes 0.
 pub fn toggle_off(busy: bool, tagged: u64, on: bool) -> Toggled
-    ensures { λ r. ⌜ r ≡ toggleOffOf busy tagged on ⌝ }
+    ensures { result ≡ toggle_off_of busy tagged on }
 {
     if busy {
         return refuse(BUSY, tagged, on);

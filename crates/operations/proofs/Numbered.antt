@@ -1,78 +1,78 @@
 -- The tests of an operation's and a stage's number tell their numerals, and which stage a rule pairs with which
 -- operation. Assumes nothing.
-use Prim.Native.Nat.{ℕ, _≤_}
-use mathlib.Core.Path.{_≡_, refl, sym, _∙_, subst}
-use mathlib.Core.Logic.{_≢_, _⊎_, inl, inr}
+use Prim.Native.Nat.{ℕ, ◌≤◌}
+use mathlib.Core.Path.{◌≡◌, refl, sym, ◌∙◌, subst}
+use mathlib.Core.Logic.{◌≢◌, ◌⊎◌, inl, inr}
 use mathlib.Core.Bool.{Bool, true, false, not, true≢false}
-use mathlib.Core.List.{List, [], _∷_}
-use native.Mathlib.Decide.{ℕ-discrete}
-use borrow.Author.Tests.{eq-eqb, ne-eqb}
-use Rattle·operations·specs.specs.declared.Worker.{Worker}
-use Rattle·operations·specs.specs.Operations.{stagedB, pushesB, takesB, onSharedB, onTaggedB, wordOf, offB, fullB, firstStage, busyB, oneOf, readsHeadB, usesSeenB, stagesOf, pairedB}
-use Rattle·operations·specs.specs.Numbered.{Pushes, Takes, OnShared, OnTagged, ReadsHead, UsesSeen, Paired, pushSharedLoads, pushSharedWrites, pushSharedExchanges, takeSharedLoads, takeSharedSwaps, pushTaggedLoads, pushTaggedWrites, pushTaggedExchanges, takeTaggedMasks, setLoads, setExchanges, askLoads, askExchanges, waitLoads, OperationsAre, StagesAre, BusyIs}
-use Rattle·operations·proofs.proofs.Tells.{Tells, tells-false, tells-never, tells-off, tells-as, tells-eq, tells-le, tells-none, tells-and, tells-or, told-both}
+use mathlib.Core.List.{List, [], ◌∷◌}
+use native.Mathlib.Decide.{ℕ_discrete}
+use borrow.Author.Tests.{eq-eqb, ne_eqb}
+use Rattle.operations.specs.declared.Worker.{Worker}
+use Rattle.operations.specs.Operations.{staged_b, pushes_b, takes_b, on_shared_b, on_tagged_b, word_of, off_b, full_b, first_stage, busy_b, one_of, reads_head_b, uses_seen_b, stages_of, paired_b}
+use Rattle.operations.specs.Numbered.{Pushes, Takes, OnShared, OnTagged, ReadsHead, UsesSeen, Paired, push_shared_loads, push_shared_writes, push_shared_exchanges, take_shared_loads, take_shared_swaps, push_tagged_loads, push_tagged_writes, push_tagged_exchanges, take_tagged_masks, set_loads, set_exchanges, ask_loads, ask_exchanges, wait_loads, OperationsAre, StagesAre, BusyIs}
+use Rattle.operations.proofs.Tells.{Tells, tells-false, tells-never, tells-off, tells_as, tells-eq, tells-le, tells_none, tells-and, tells-or, told-both}
 
 -- ---- operations and stages
 
 module _ (op : ℕ) where
-  pub tells-staged : Tells (stagedB op) ((6 ≤ op) × (op ≤ 12))
-  unfolding stagedB
+  pub tells-staged : Tells (staged_b op) ((6 ≤ op) × (op ≤ 12))
+  unfolding staged_b
   tells-staged = tells-and (tells-le 6 op) (tells-le op 12)
 
-  pub tells-pushes : Tells (pushesB op) (Pushes op)
-  unfolding pushesB
+  pub tells-pushes : Tells (pushes_b op) (Pushes op)
+  unfolding pushes_b
   tells-pushes = tells-or (tells-eq op 6) (tells-eq op 8)
 
-  pub tells-takes : Tells (takesB op) (Takes op)
-  unfolding takesB
+  pub tells-takes : Tells (takes_b op) (Takes op)
+  unfolding takes_b
   tells-takes = tells-or (tells-eq op 7) (tells-eq op 9)
 
-  pub tells-shared : Tells (onSharedB op) (OnShared op)
-  unfolding onSharedB
+  pub tells-shared : Tells (on_shared_b op) (OnShared op)
+  unfolding on_shared_b
   tells-shared = tells-or (tells-eq op 6) (tells-eq op 7)
 
-  pub tells-tagged : Tells (onTaggedB op) (OnTagged op)
-  unfolding onTaggedB
+  pub tells-tagged : Tells (on_tagged_b op) (OnTagged op)
+  unfolding on_tagged_b
   tells-tagged = tells-and (tells-le 8 op) (tells-le op 12)
 
-  pub tells-switched : (on : Bool) → Tells (offB op on) (OnTagged op × (on ≡ false))
-  unfolding offB
+  pub tells-switched : (on : Bool) → Tells (off_b op on) (OnTagged op × (on ≡ false))
+  unfolding off_b
   tells-switched on = tells-and tells-tagged (tells-off on)
 
-  pub tells-full : (got : ℕ) → Tells (fullB op got) (Takes op × (got ≢ 0))
-  unfolding fullB
-  tells-full got = tells-and tells-takes (tells-none (tells-eq got 0))
+  pub tells-full : (got : ℕ) → Tells (full_b op got) (Takes op × (got ≢ 0))
+  unfolding full_b
+  tells-full got = tells-and tells-takes (tells_none (tells-eq got 0))
 
   -- the head word, by whether the operation is on S
-  pub word-shared : (s t : ℕ) → OnShared op → wordOf op s t ≡ s
-  unfolding wordOf
-  word-shared s t on = simp (tells-shared .test on)
+  pub word-shared : (s t : ℕ) → OnShared op → word_of op s t ≡ s
+  unfolding word_of
+  word-shared s t on = simp (tells-shared.test on)
 
-  pub word-tagged : (s t : ℕ) → (OnShared op → ⊥) → wordOf op s t ≡ t
-  unfolding wordOf
+  pub word-tagged : (s t : ℕ) → (OnShared op → ⊥) → word_of op s t ≡ t
+  unfolding word_of
   word-tagged s t off = simp (tells-false tells-shared off)
 
-  pub first-masks : op ≡ 9 → firstStage op ≡ 5
-  unfolding firstStage
+  pub first-masks : op ≡ 9 → first_stage op ≡ 5
+  unfolding first_stage
   first-masks e = simp (eq-eqb op 9 e)
 
-  pub first-loads : op ≢ 9 → firstStage op ≡ 1
-  unfolding firstStage
-  first-loads n = simp (ne-eqb op 9 n)
+  pub first-loads : op ≢ 9 → first_stage op ≡ 1
+  unfolding first_stage
+  first-loads n = simp (ne_eqb op 9 n)
 
 -- a number is one of a list's
 abbrev Among : ℕ → List ℕ → Type 0
 Among k [] = ⊥
 Among k (x ∷ xs) = k ≡ x ⊎ Among k xs
 
-tells-among : (k : ℕ) (xs : List ℕ) → Tells (oneOf k xs) (Among k xs)
-unfolding oneOf
+tells-among : (k : ℕ) (xs : List ℕ) → Tells (one_of k xs) (Among k xs)
+unfolding one_of
 tells-among k [] = tells-never
 tells-among k (x ∷ xs) = tells-or (tells-eq k x) (tells-among k xs)
 
 module _ (stage : ℕ) where
-  pub tells-reads : Tells (readsHeadB stage) (ReadsHead stage)
-  tells-reads = tells-as (tells-among stage (1 ∷ 4 ∷ 5 ∷ [])) to from
+  pub tells-reads : Tells (reads_head_b stage) (ReadsHead stage)
+  tells-reads = tells_as (tells-among stage (1 ∷ 4 ∷ 5 ∷ [])) to from
     where
       to : Among stage (1 ∷ 4 ∷ 5 ∷ []) → ReadsHead stage
       to (inl e) = inl e
@@ -84,8 +84,8 @@ module _ (stage : ℕ) where
       from (inr (inl e)) = inr (inl e)
       from (inr (inr e)) = inr (inr (inl e))
 
-  pub tells-uses : Tells (usesSeenB stage) (UsesSeen stage)
-  tells-uses = tells-as (tells-among stage (2 ∷ 3 ∷ [])) to from
+  pub tells-uses : Tells (uses_seen_b stage) (UsesSeen stage)
+  tells-uses = tells_as (tells-among stage (2 ∷ 3 ∷ [])) to from
     where
       to : Among stage (2 ∷ 3 ∷ []) → UsesSeen stage
       to (inl e) = inl e
@@ -97,22 +97,22 @@ module _ (stage : ℕ) where
 
 -- ---- pairs
 
-paired-test : {op stage : ℕ} → Paired op stage → pairedB op stage ≡ true
-unfolding stagesOf pushesB oneOf
-paired-test pushSharedLoads = refl
-paired-test pushSharedWrites = refl
-paired-test pushSharedExchanges = refl
-paired-test takeSharedLoads = refl
-paired-test takeSharedSwaps = refl
-paired-test pushTaggedLoads = refl
-paired-test pushTaggedWrites = refl
-paired-test pushTaggedExchanges = refl
-paired-test takeTaggedMasks = refl
-paired-test setLoads = refl
-paired-test setExchanges = refl
-paired-test askLoads = refl
-paired-test askExchanges = refl
-paired-test waitLoads = refl
+paired-test : {op stage : ℕ} → Paired op stage → paired_b op stage ≡ true
+unfolding stages_of pushes_b one_of
+paired-test push_shared_loads = refl
+paired-test push_shared_writes = refl
+paired-test push_shared_exchanges = refl
+paired-test take_shared_loads = refl
+paired-test take_shared_swaps = refl
+paired-test push_tagged_loads = refl
+paired-test push_tagged_writes = refl
+paired-test push_tagged_exchanges = refl
+paired-test take_tagged_masks = refl
+paired-test set_loads = refl
+paired-test set_exchanges = refl
+paired-test ask_loads = refl
+paired-test ask_exchanges = refl
+paired-test wait_loads = refl
 
 -- what holds of each number of a list
 abbrev Every : (ℕ → Type 0) → List ℕ → Type 0
@@ -121,8 +121,8 @@ Every P (x ∷ xs) = P x × Every P xs
 
 -- holds of one of them
 one-of : (P : ℕ → Type 0) (k : ℕ) (xs : List ℕ) → Every P xs → Among k xs → P k
-one-of P k (x ∷ xs) e (inl p) = subst P (sym p) (e .0)
-one-of P k (x ∷ xs) e (inr a) = one-of P k xs (e .1) a
+one-of P k (x ∷ xs) e (inl p) = subst P (sym p) e.0
+one-of P k (x ∷ xs) e (inr a) = one-of P k xs e.1 a
 
 -- what holds of 6 to 12, and of every other number, holds of each
 module _ (P : ℕ → Type 0) (op : ℕ) where
@@ -133,44 +133,44 @@ module _ (P : ℕ → Type 0) (op : ℕ) where
   by-operation : P 6 → P 7 → P 8 → P 9 → P 10 → P 11 → P 12
       → (op ≢ 6 → op ≢ 7 → op ≢ 8 → op ≢ 9 → op ≢ 10 → op ≢ 11 → op ≢ 12 → P op) → P op
   by-operation p6 p7 p8 p9 p10 p11 p12 f =
-      next (ℕ-discrete op 6) p6 (λ n6.
-      next (ℕ-discrete op 7) p7 (λ n7.
-      next (ℕ-discrete op 8) p8 (λ n8.
-      next (ℕ-discrete op 9) p9 (λ n9.
-      next (ℕ-discrete op 10) p10 (λ n10. next (ℕ-discrete op 11) p11 (λ n11. next (ℕ-discrete op 12) p12 (f n6 n7 n8 n9 n10 n11)))))))
+      next (ℕ_discrete op 6) p6 (λ n6.
+      next (ℕ_discrete op 7) p7 (λ n7.
+      next (ℕ_discrete op 8) p8 (λ n8.
+      next (ℕ_discrete op 9) p9 (λ n9.
+      next (ℕ_discrete op 10) p10 (λ n10. next (ℕ_discrete op 11) p11 (λ n11. next (ℕ_discrete op 12) p12 (f n6 n7 n8 n9 n10 n11)))))))
 
-paired-facts : (op stage : ℕ) → pairedB op stage ≡ true → Paired op stage
-unfolding stagesOf pushesB oneOf
+paired-facts : (op stage : ℕ) → paired_b op stage ≡ true → Paired op stage
+unfolding stages_of pushes_b one_of
 paired-facts op stage =
-    by-operation (λ op. pairedB op stage ≡ true → Paired op stage) op
-    (at (1 ∷ 2 ∷ 3 ∷ []) (pushSharedLoads, (pushSharedWrites, (pushSharedExchanges, tt))))
-    (at (1 ∷ 4 ∷ []) (takeSharedLoads, (takeSharedSwaps, tt)))
-    (at (1 ∷ 2 ∷ 3 ∷ []) (pushTaggedLoads, (pushTaggedWrites, (pushTaggedExchanges, tt))))
-    (at (5 ∷ []) (takeTaggedMasks, tt))
-    (at (1 ∷ 3 ∷ []) (setLoads, (setExchanges, tt)))
-    (at (1 ∷ 3 ∷ []) (askLoads, (askExchanges, tt)))
-    (at (1 ∷ []) (waitLoads, tt))
+    by-operation (λ op. paired_b op stage ≡ true → Paired op stage) op
+    (at (1 ∷ 2 ∷ 3 ∷ []) (push_shared_loads, (push_shared_writes, (push_shared_exchanges, tt))))
+    (at (1 ∷ 4 ∷ []) (take_shared_loads, (take_shared_swaps, tt)))
+    (at (1 ∷ 2 ∷ 3 ∷ []) (push_tagged_loads, (push_tagged_writes, (push_tagged_exchanges, tt))))
+    (at (5 ∷ []) (take_tagged_masks, tt))
+    (at (1 ∷ 3 ∷ []) (set_loads, (set_exchanges, tt)))
+    (at (1 ∷ 3 ∷ []) (ask_loads, (ask_exchanges, tt)))
+    (at (1 ∷ []) (wait_loads, tt))
     (λ n6 n7 n8 n9 n10 n11 n12 e.
-    absurd (true≢false (sym e ∙ simp (ne-eqb _ _ n6, ne-eqb _ _ n7, ne-eqb _ _ n8, ne-eqb _ _ n9, ne-eqb _ _ n10, ne-eqb _ _ n11, ne-eqb _ _ n12))))
+    absurd (true≢false (sym e ∙ simp (ne_eqb _ _ n6, ne_eqb _ _ n7, ne_eqb _ _ n8, ne_eqb _ _ n9, ne_eqb _ _ n10, ne_eqb _ _ n11, ne_eqb _ _ n12))))
   where
-    at : {op : ℕ} (xs : List ℕ) → Every (Paired op) xs → oneOf stage xs ≡ true → Paired op stage
-    at {op} xs every e = one-of (Paired op) stage xs every (tells-among stage xs .fact e)
+    at : {op : ℕ} (xs : List ℕ) → Every (Paired op) xs → one_of stage xs ≡ true → Paired op stage
+    at {op} xs every e = one-of (Paired op) stage xs every ((tells-among stage xs).fact e)
 
-pub tells-paired : (op stage : ℕ) → Tells (pairedB op stage) (Paired op stage)
+pub tells-paired : (op stage : ℕ) → Tells (paired_b op stage) (Paired op stage)
 tells-paired op stage = record { fact = paired-facts op stage; test = paired-test }
 
 -- ---- a worker's record
 
-pub tells-busy : (k : Worker) → Tells (busyB k) (k .operation ≢ 0)
-tells-busy k = tells-none (tells-eq (k .operation) 0)
+pub tells-busy : (k : Worker) → Tells (busy_b k) (k.operation ≢ 0)
+tells-busy k = tells_none (tells-eq k.operation 0)
 
-pub tells-idle : (k : Worker) → Tells (not (busyB k)) (k .operation ≡ 0)
-tells-idle k = tells-as (tells-none (tells-busy k)) to (λ e f. f e)
+pub tells-idle : (k : Worker) → Tells (not (busy_b k)) (k.operation ≡ 0)
+tells-idle k = tells_as (tells_none (tells-busy k)) to (λ e f. f e)
   where
-    to : (k .operation ≢ 0 → ⊥) → k .operation ≡ 0
-    to f = go (ℕ-discrete (k .operation) 0)
+    to : (k.operation ≢ 0 → ⊥) → k.operation ≡ 0
+    to f = go (ℕ_discrete k.operation 0)
       where
-        go : Dec (k .operation ≡ 0) → k .operation ≡ 0
+        go : Dec (k.operation ≡ 0) → k.operation ≡ 0
         go (yes e) = e
         go (no n) = absurd (f n)
 
@@ -184,12 +184,12 @@ operations-are op =
       takes = told-both (tells-takes op);
       shared = told-both (tells-shared op);
       tagged = told-both (tells-tagged op);
-      wordShared = word-shared op;
-      wordTagged = word-tagged op;
+      word_shared = word-shared op;
+      word_tagged = word-tagged op;
       off = λ on. told-both (tells-switched op on);
       full = λ got. told-both (tells-full op got);
-      firstMasks = first-masks op;
-      firstLoads = first-loads op;
+      first_masks = first-masks op;
+      first_loads = first-loads op;
       paired = λ stage. told-both (tells-paired op stage);
     }
 

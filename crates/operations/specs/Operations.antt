@@ -1,64 +1,61 @@
 -- The staged operations by the numbers of their requests, their stages, and a worker's record (document 01, Requests
 -- 6 to 12).
-use Prim.Native.Nat.{ℕ}
-use mathlib.Core.Bool.{Bool, false, not, _&&_, _||_, cond}
-use mathlib.Core.List.{List, [], _∷_}
-use lib.Dec.{leb, eqb}
-use Rattle·operations·specs.specs.declared.Worker.{Worker}
+use Rattle.std.specs.Prelude.{ℕ, Bool, false, not, ◌&&◌, ◌||◌, cond, List, [], ◌∷◌, leb, eqb}
+use Rattle.operations.specs.declared.Worker.{Worker}
 
 -- ---- operations; 0 is none
 
-abbrev pub pushShared : ℕ
-pushShared = 6
+abbrev pub push_shared : ℕ
+push_shared = 6
 
-abbrev pub takeShared : ℕ
-takeShared = 7
+abbrev pub take_shared : ℕ
+take_shared = 7
 
-abbrev pub pushTagged : ℕ
-pushTagged = 8
+abbrev pub push_tagged : ℕ
+push_tagged = 8
 
-abbrev pub takeTagged : ℕ
-takeTagged = 9
+abbrev pub take_tagged : ℕ
+take_tagged = 9
 
-abbrev pub setTag : ℕ
-setTag = 10
+abbrev pub set_tag : ℕ
+set_tag = 10
 
-abbrev pub askTag : ℕ
-askTag = 11
+abbrev pub ask_tag : ℕ
+ask_tag = 11
 
-abbrev pub awaitTag : ℕ
-awaitTag = 12
+abbrev pub await_tag : ℕ
+await_tag = 12
 
 -- a staged operation
-unfoldable pub stagedB : ℕ → Bool
-stagedB op = leb pushShared op && leb op awaitTag
+unfoldable pub staged_b : ℕ → Bool
+staged_b op = leb push_shared op && leb op await_tag
 
 -- a push, of S or of T
-unfoldable pub pushesB : ℕ → Bool
-pushesB op = eqb op pushShared || eqb op pushTagged
+unfoldable pub pushes_b : ℕ → Bool
+pushes_b op = eqb op push_shared || eqb op push_tagged
 
 -- a take, of S or of T
-unfoldable pub takesB : ℕ → Bool
-takesB op = eqb op takeShared || eqb op takeTagged
+unfoldable pub takes_b : ℕ → Bool
+takes_b op = eqb op take_shared || eqb op take_tagged
 
 -- on S; every other staged operation is on T
-unfoldable pub onSharedB : ℕ → Bool
-onSharedB op = eqb op pushShared || eqb op takeShared
+unfoldable pub on_shared_b : ℕ → Bool
+on_shared_b op = eqb op push_shared || eqb op take_shared
 
-unfoldable pub onTaggedB : ℕ → Bool
-onTaggedB op = leb pushTagged op && leb op awaitTag
+unfoldable pub on_tagged_b : ℕ → Bool
+on_tagged_b op = leb push_tagged op && leb op await_tag
 
 -- the head word of an operation: S or T
-unfoldable pub wordOf : ℕ → ℕ → ℕ → ℕ
-wordOf op shared tagged = cond (onSharedB op) shared tagged
+unfoldable pub word_of : ℕ → ℕ → ℕ → ℕ
+word_of op shared tagged = cond (on_shared_b op) shared tagged
 
 -- an operation on T while T is off
-unfoldable pub offB : ℕ → Bool → Bool
-offB op on = onTaggedB op && not on
+unfoldable pub off_b : ℕ → Bool → Bool
+off_b op on = on_tagged_b op && not on
 
 -- a take while got is not empty
-unfoldable pub fullB : ℕ → ℕ → Bool
-fullB op got = takesB op && not (eqb got 0)
+unfoldable pub full_b : ℕ → ℕ → Bool
+full_b op got = takes_b op && not (eqb got 0)
 
 -- ---- stages; 0 is none
 
@@ -78,38 +75,38 @@ abbrev pub masking : ℕ
 masking = 5
 
 -- the first stage: a take of T is one move, every other operation loads
-unfoldable pub firstStage : ℕ → ℕ
-firstStage op = cond (eqb op takeTagged) masking loading
+unfoldable pub first_stage : ℕ → ℕ
+first_stage op = cond (eqb op take_tagged) masking loading
 
 -- a number is one of the list's
-unfoldable pub oneOf : ℕ → List ℕ → Bool
-oneOf k [] = false
-oneOf k (x ∷ xs) = eqb k x || oneOf k xs
+unfoldable pub one_of : ℕ → List ℕ → Bool
+one_of k [] = false
+one_of k (x ∷ xs) = eqb k x || one_of k xs
 
 -- the stages that look at the head: load, swap and masking
-abbrev pub readsHeadB : ℕ → Bool
-readsHeadB stage = oneOf stage (loading ∷ swapping ∷ masking ∷ [])
+abbrev pub reads_head_b : ℕ → Bool
+reads_head_b stage = one_of stage (loading ∷ swapping ∷ masking ∷ [])
 
 -- the stages that use the word seen: write and exchange
-abbrev pub usesSeenB : ℕ → Bool
-usesSeenB stage = oneOf stage (writing ∷ exchanging ∷ [])
+abbrev pub uses_seen_b : ℕ → Bool
+uses_seen_b stage = one_of stage (writing ∷ exchanging ∷ [])
 
 -- the stages that a rule pairs with an operation
-unfoldable pub stagesOf : ℕ → List ℕ
-stagesOf op =
-    cond (pushesB op) (loading ∷ writing ∷ exchanging ∷ [])
-    (cond (eqb op takeShared) (loading ∷ swapping ∷ [])
-    (cond (eqb op takeTagged) (masking ∷ [])
-    (cond (oneOf op (setTag ∷ askTag ∷ [])) (loading ∷ exchanging ∷ []) (cond (eqb op awaitTag) (loading ∷ []) []))))
+unfoldable pub stages_of : ℕ → List ℕ
+stages_of op =
+    cond (pushes_b op) (loading ∷ writing ∷ exchanging ∷ [])
+    (cond (eqb op take_shared) (loading ∷ swapping ∷ [])
+    (cond (eqb op take_tagged) (masking ∷ [])
+    (cond (one_of op (set_tag ∷ ask_tag ∷ [])) (loading ∷ exchanging ∷ []) (cond (eqb op await_tag) (loading ∷ []) []))))
 
-abbrev pub pairedB : ℕ → ℕ → Bool
-pairedB op stage = oneOf stage (stagesOf op)
+abbrev pub paired_b : ℕ → ℕ → Bool
+paired_b op stage = one_of stage (stages_of op)
 
 -- ---- the record
 
 -- an operation is under way
-abbrev pub busyB : Worker → Bool
-busyB k = not (eqb (k .operation) 0)
+abbrev pub busy_b : Worker → Bool
+busy_b k = not (eqb k.operation 0)
 
 abbrev pub record8 : ℕ → ℕ → ℕ → ℕ → ℕ → ℕ → ℕ → ℕ → Worker
 record8 own got op stage tag hand seen sightings =

@@ -1,9 +1,11 @@
 // The operations by the numbers of their requests, the stages of a move, what is asked of them at a start and at a
 // move, and a worker's record. No public function has a requires.
-ghost use mathlib.Core.Path.{_≡_};
-ghost use Rattle·operations·specs.specs.Operations.{stagedB, pushesB, takesB, onSharedB, onTaggedB, wordOf, offB, fullB, firstStage, pairedB, busyB};
-use crate::choice::is_either;
-use crate::choice::is_one_of;
+#![tactic(auto)]
+
+ghost use Rattle.std.specs.Prelude.{◌≡◌};
+ghost use Rattle.operations.specs.Operations.{staged_b, pushes_b, takes_b, on_shared_b, on_tagged_b, word_of, off_b, full_b, first_stage, paired_b, busy_b};
+
+use crate::choice::{is_either, is_one_of};
 
 pub mod choice;
 
@@ -32,6 +34,7 @@ pub const SWAPPING: u64 = 4;
 pub const MASKING: u64 = 5;
 
 // A worker's record.
+#[derive(Clone, Copy)]
 pub struct Worker {
     pub own: u64,
     pub got: u64,
@@ -45,42 +48,42 @@ pub struct Worker {
 
 // Whether an operation is staged.
 pub fn is_staged(operation: u64) -> bool
-    ensures { λ r. ⌜ r ≡ stagedB operation ⌝ }
+    ensures { result ≡ staged_b operation }
 {
     PUSH_SHARED <= operation && operation <= AWAIT_TAG
 }
 
 // Whether it pushes.
 pub fn pushes(operation: u64) -> bool
-    ensures { λ r. ⌜ r ≡ pushesB operation ⌝ }
+    ensures { result ≡ pushes_b operation }
 {
     operation == PUSH_SHARED || operation == PUSH_TAGGED
 }
 
 // Whether it takes.
 pub fn takes(operation: u64) -> bool
-    ensures { λ r. ⌜ r ≡ takesB operation ⌝ }
+    ensures { result ≡ takes_b operation }
 {
     operation == TAKE_SHARED || operation == TAKE_TAGGED
 }
 
 // Whether it is on S.
 pub fn on_shared(operation: u64) -> bool
-    ensures { λ r. ⌜ r ≡ onSharedB operation ⌝ }
+    ensures { result ≡ on_shared_b operation }
 {
     operation == PUSH_SHARED || operation == TAKE_SHARED
 }
 
 // Whether it is on T.
 pub fn on_tagged(operation: u64) -> bool
-    ensures { λ r. ⌜ r ≡ onTaggedB operation ⌝ }
+    ensures { result ≡ on_tagged_b operation }
 {
     PUSH_TAGGED <= operation && operation <= AWAIT_TAG
 }
 
 // Its head word: S or T.
 pub fn word_of(operation: u64, shared: u64, tagged: u64) -> u64
-    ensures { λ r. ⌜ r ≡ wordOf operation shared tagged ⌝ }
+    ensures { result ≡ word_of operation shared tagged }
 {
     if on_shared(operation) {
         return shared;
@@ -90,21 +93,21 @@ pub fn word_of(operation: u64, shared: u64, tagged: u64) -> u64
 
 // Whether it is on T while T is off.
 pub fn is_off(operation: u64, on: bool) -> bool
-    ensures { λ r. ⌜ r ≡ offB operation on ⌝ }
+    ensures { result ≡ off_b operation on }
 {
     !on && on_tagged(operation)
 }
 
 // Whether it takes while got is not empty.
 pub fn is_full(operation: u64, got: u64) -> bool
-    ensures { λ r. ⌜ r ≡ fullB operation got ⌝ }
+    ensures { result ≡ full_b operation got }
 {
     got != 0 && takes(operation)
 }
 
 // The first stage.
 pub fn first_stage(operation: u64) -> u64
-    ensures { λ r. ⌜ r ≡ firstStage operation ⌝ }
+    ensures { result ≡ first_stage operation }
 {
     if operation == TAKE_TAGGED {
         return MASKING;
@@ -114,7 +117,7 @@ pub fn first_stage(operation: u64) -> u64
 
 // Whether a rule pairs an operation and a stage.
 pub fn is_paired(operation: u64, stage: u64) -> bool
-    ensures { λ r. ⌜ r ≡ pairedB operation stage ⌝ }
+    ensures { result ≡ paired_b operation stage }
 {
     if pushes(operation) {
         return is_one_of(stage, LOADING, WRITING, EXCHANGING);
@@ -136,7 +139,7 @@ pub fn is_paired(operation: u64, stage: u64) -> bool
 
 // Whether an operation is under way.
 pub fn is_busy(k: Worker) -> bool
-    ensures { λ r. ⌜ r ≡ busyB k ⌝ }
+    ensures { result ≡ busy_b k }
 {
     k.operation != 0
 }

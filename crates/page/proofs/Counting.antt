@@ -1,17 +1,17 @@
 -- How often a block stands in sequences, by which "exactly one place" is said. Assumes nothing.
-use mathlib.Core.Path.{_≡_, refl, sym, ap, subst}
-use mathlib.Core.Logic.{_≢_, _⊎_, inl, inr, ⊎-elim}
+use mathlib.Core.Path.{◌≡◌, refl, sym, ap, subst}
+use mathlib.Core.Logic.{◌≢◌, ◌⊎◌, inl, inr, ⊎_elim}
 use mathlib.Core.Bool.{Bool, true, false}
-use mathlib.Core.List.{List, [], _∷_, _++_}
-use Prim.Native.Nat.{ℕ, zero, suc, _+_, _≤_, _<_}
-use native.Mathlib.Decide.{decLt}
+use mathlib.Core.List.{List, [], ◌∷◌, ◌++◌}
+use Prim.Native.Nat.{ℕ, zero, suc, ◌+◌, ◌≤◌, ◌<◌}
+use native.Mathlib.Decide.{dec_lt}
 use native.Mathlib.Omega.{arith}
-use native.Mathlib.Nat.{le-of-suc-le-suc, not-suc-le-zero}
+use native.Mathlib.Nat.{le_of_suc-le-suc, not-suc-le-zero}
 use lib.Dec.{eqb}
 use borrow.Author.Tests.{eqb-true, eqb-false}
-use lib.ListN.{length, getD, set}
-use Rattle·page·specs.specs.Walk.{lastOf}
-use Rattle·page·specs.specs.Sequences.{one, hit, times, Each, Once, upFrom}
+use lib.ListN.{length, get_or, set}
+use Rattle.page.specs.Walk.{last_of}
+use Rattle.page.specs.Sequences.{one, hit, times, Each, Once, up_from}
 
 pub hit-is : (i x : ℕ) → ((i ≡ x) × (hit i x ≡ 1)) ⊎ ((i ≢ x) × (hit i x ≡ 0))
 unfolding hit
@@ -21,14 +21,14 @@ hit-is i x = go (eqb i x) refl
     go true e = inl (eqb-true i x e, refl)
     go false e = inr (eqb-false i x e, refl)
 
-pub hit-same : (i : ℕ) → hit i i ≡ 1
-hit-same i = ⊎-elim (λ h. h .1) (λ h. absurd (h .0 refl)) (hit-is i i)
+pub hit_same : (i : ℕ) → hit i i ≡ 1
+hit_same i = ⊎_elim (λ h. h.1) (λ h. absurd (h.0 refl)) (hit-is i i)
 
-pub hit-other : (i x : ℕ) → i ≢ x → hit i x ≡ 0
-hit-other i x n = ⊎-elim (λ h. absurd (n (h .0))) (λ h. h .1) (hit-is i x)
+pub hit_other : (i x : ℕ) → i ≢ x → hit i x ≡ 0
+hit_other i x n = ⊎_elim (λ h. absurd (n h.0)) (λ h. h.1) (hit-is i x)
 
 pub hit-zero : (i x : ℕ) → hit i x ≡ 0 → i ≢ x
-hit-zero i x z e = ⊎-elim (λ (h : (i ≡ x) × (hit i x ≡ 1)). omega arith) (λ (h : (i ≢ x) × (hit i x ≡ 0)). h .0 e) (hit-is i x)
+hit-zero i x z e = ⊎_elim (λ (h : (i ≡ x) × (hit i x ≡ 1)). omega arith) (λ (h : (i ≢ x) × (hit i x ≡ 0)). h.0 e) (hit-is i x)
 
 pub times-append : (i : ℕ) (xs ys : List ℕ) → times i (xs ++ ys) ≡ times i xs + times i ys
 times-append i [] ys = omega arith
@@ -40,23 +40,23 @@ module _ {ℓ} {A : Type ℓ} (f : A → ℕ) where
   sum [] = 0
   sum (x ∷ xs) = f x + sum xs
 
-  pub sum-set : (xs : List A) (w : ℕ) (y d : A) → w < length xs → sum (set xs w y) + f (getD xs w d) ≡ sum xs + f y
+  pub sum-set : (xs : List A) (w : ℕ) (y d : A) → w < length xs → sum (set xs w y) + f (get_or xs w d) ≡ sum xs + f y
   sum-set [] w y d h = absurd (not-suc-le-zero h)
   sum-set (x ∷ xs) zero y d h = omega arith
-  sum-set (x ∷ xs) (suc w) y d h = omega (arith, sum-set xs w y d (le-of-suc-le-suc h))
+  sum-set (x ∷ xs) (suc w) y d h = omega (arith, sum-set xs w y d (le_of_suc-le-suc h))
 
-  pub sum-ge : (xs : List A) (w : ℕ) (d : A) → w < length xs → f (getD xs w d) ≤ sum xs
+  pub sum-ge : (xs : List A) (w : ℕ) (d : A) → w < length xs → f (get_or xs w d) ≤ sum xs
   sum-ge [] w d h = absurd (not-suc-le-zero h)
   sum-ge (x ∷ xs) zero d h = omega arith
-  sum-ge (x ∷ xs) (suc w) d h = omega (arith, sum-ge xs w d (le-of-suc-le-suc h))
+  sum-ge (x ∷ xs) (suc w) d h = omega (arith, sum-ge xs w d (le_of_suc-le-suc h))
 
-  pub sum-ge-two : (xs : List A) (v w : ℕ) (d : A) → v < length xs → w < length xs → v ≢ w → f (getD xs v d) + f (getD xs w d) ≤ sum xs
+  pub sum-ge-two : (xs : List A) (v w : ℕ) (d : A) → v < length xs → w < length xs → v ≢ w → f (get_or xs v d) + f (get_or xs w d) ≤ sum xs
   sum-ge-two [] v w d hv hw n = absurd (not-suc-le-zero hv)
   sum-ge-two (x ∷ xs) zero zero d hv hw n = absurd (n refl)
-  sum-ge-two (x ∷ xs) zero (suc w) d hv hw n = omega (arith, sum-ge xs w d (le-of-suc-le-suc hw))
-  sum-ge-two (x ∷ xs) (suc v) zero d hv hw n = omega (arith, sum-ge xs v d (le-of-suc-le-suc hv))
+  sum-ge-two (x ∷ xs) zero (suc w) d hv hw n = omega (arith, sum-ge xs w d (le_of_suc-le-suc hw))
+  sum-ge-two (x ∷ xs) (suc v) zero d hv hw n = omega (arith, sum-ge xs v d (le_of_suc-le-suc hv))
   sum-ge-two (x ∷ xs) (suc v) (suc w) d hv hw n =
-      omega (arith, sum-ge-two xs v w d (le-of-suc-le-suc hv) (le-of-suc-le-suc hw) (λ e. n (ap suc e)))
+      omega (arith, sum-ge-two xs v w d (le_of_suc-le-suc hv) (le_of_suc-le-suc hw) (λ e. n (ap suc e)))
 
 -- ---- a list without repeats over 1 to n is at most n long: its length is the sum of the counts
 
@@ -74,7 +74,7 @@ total-cons (suc m) x xs = omega (arith, total-cons m x xs)
 
 total-above : (m x : ℕ) → m < x → total m (x ∷ []) ≡ 0
 total-above zero x h = refl
-total-above (suc m) x h = omega (arith, total-above m x (omega arith), hit-other (suc m) x (λ e. omega arith))
+total-above (suc m) x h = omega (arith, total-above m x (omega arith), hit_other (suc m) x (λ e. omega arith))
 
 total-within : (m x : ℕ) → 1 ≤ x → x ≤ m → total m (x ∷ []) ≡ 1
 total-within zero x a b = absurd (omega arith)
@@ -82,13 +82,13 @@ total-within (suc m) x a b = go (λ d. total-within m x a d) (hit-is (suc m) x)
   where
     go : (x ≤ m → total m (x ∷ []) ≡ 1) → ((suc m ≡ x) × (hit (suc m) x ≡ 1)) ⊎ ((suc m ≢ x) × (hit (suc m) x ≡ 0)) → hit (suc m) x + 0 + total m (x ∷ []) ≡ 1
     go below (inl h) = omega (arith, total-above m x (omega arith))
-    go below (inr h) = let k : suc m ≢ x = h .0 in omega (arith, below (omega arith))
+    go below (inr h) = let k : suc m ≢ x = h.0 in omega (arith, below (omega arith))
 
 pub total-length : (m : ℕ) (xs : List ℕ) → ((i : ℕ) → 0 < times i xs → (1 ≤ i) × (i ≤ m)) → total m xs ≡ length xs
 total-length m [] g = total-nil m
 total-length m (x ∷ xs) g =
-    let gx : (1 ≤ x) × (x ≤ m) = g x (omega (arith, hit-same x)) in
-    omega (arith, total-cons m x xs, total-within m x (gx .0) (gx .1), total-length m xs (λ i b. g i (omega arith)))
+    let gx : (1 ≤ x) × (x ≤ m) = g x (omega (arith, hit_same x)) in
+    omega (arith, total-cons m x xs, total-within m x gx.0 gx.1, total-length m xs (λ i b. g i (omega arith)))
 
 total-le : (m : ℕ) (xs : List ℕ) → ((i : ℕ) → times i xs ≤ 1) → total m xs ≤ m
 total-le zero xs h = omega arith
@@ -100,41 +100,41 @@ length-le m xs h g = omega (arith, total-length m xs g, total-le m xs h)
 -- ---- each block of a sequence
 
 pub each-head : {P : ℕ → Type 0} (x : ℕ) (xs : List ℕ) → Each P (x ∷ xs) → P x
-each-head x xs g = g x (omega (arith, hit-same x))
+each-head x xs g = g x (omega (arith, hit_same x))
 
-pub each-tail : {P : ℕ → Type 0} (x : ℕ) (xs : List ℕ) → Each P (x ∷ xs) → Each P xs
-each-tail x xs g i b = g i (omega arith)
+pub each_tail : {P : ℕ → Type 0} (x : ℕ) (xs : List ℕ) → Each P (x ∷ xs) → Each P xs
+each_tail x xs g i b = g i (omega arith)
 
 pub each-cons : {P : ℕ → Type 0} (x : ℕ) (xs : List ℕ) → P x → Each P xs → Each P (x ∷ xs)
 each-cons {P} x xs px g i b = go (hit-is i x)
   where
     go : ((i ≡ x) × (hit i x ≡ 1)) ⊎ ((i ≢ x) × (hit i x ≡ 0)) → P i
-    go (inl e) = subst P (sym (e .0)) px
+    go (inl e) = subst P (sym e.0) px
     go (inr e) = g i (omega arith)
 
-pub each-append : {P : ℕ → Type 0} (xs ys : List ℕ) → Each P xs → Each P ys → Each P (xs ++ ys)
-each-append {P} xs ys gx gy i b = go (times i xs) refl
+pub each_append : {P : ℕ → Type 0} (xs ys : List ℕ) → Each P xs → Each P ys → Each P (xs ++ ys)
+each_append {P} xs ys gx gy i b = go (times i xs) refl
   where
     go : (k : ℕ) → times i xs ≡ k → P i
     go zero e = gy i (omega (arith, times-append i xs ys))
     go (suc k) e = gx i (omega arith)
 
 -- the last of a list with a block before it is the last of the list
-pub last-cons : (i x : ℕ) (xs : List ℕ) → lastOf i (x ∷ xs) ≡ lastOf x xs
-unfolding lastOf
-last-cons i x xs = refl
+pub last_cons : (i x : ℕ) (xs : List ℕ) → last_of i (x ∷ xs) ≡ last_of x xs
+unfolding last_of
+last_cons i x xs = refl
 
 -- the last block is one of them
-pub last-in : (x : ℕ) (xs : List ℕ) → 0 < times (lastOf x xs) (x ∷ xs)
-unfolding lastOf
-last-in x [] = omega (arith, hit-same x)
+pub last-in : (x : ℕ) (xs : List ℕ) → 0 < times (last_of x xs) (x ∷ xs)
+unfolding last_of
+last-in x [] = omega (arith, hit_same x)
 last-in x (y ∷ ys) = omega (arith, last-in y ys)
 
-pub each-right : {P : ℕ → Type 0} (xs ys : List ℕ) → Each P (xs ++ ys) → Each P ys
-each-right xs ys g i b = g i (omega (arith, times-append i xs ys))
+pub each_right : {P : ℕ → Type 0} (xs ys : List ℕ) → Each P (xs ++ ys) → Each P ys
+each_right xs ys g i b = g i (omega (arith, times-append i xs ys))
 
-pub each-left : {P : ℕ → Type 0} (xs ys : List ℕ) → Each P (xs ++ ys) → Each P xs
-each-left xs ys g i b = g i (omega (arith, times-append i xs ys))
+pub each_left : {P : ℕ → Type 0} (xs ys : List ℕ) → Each P (xs ++ ys) → Each P xs
+each_left xs ys g i b = g i (omega (arith, times-append i xs ys))
 
 -- where a block stands in a sequence
 pub record Split (x : ℕ) (xs : List ℕ) : Type 0 where
@@ -147,47 +147,47 @@ times-split x [] b = absurd (omega arith)
 times-split x (y ∷ ys) b = go (hit-is x y) (λ l. times-split x ys l)
   where
     go : ((x ≡ y) × (hit x y ≡ 1)) ⊎ ((x ≢ y) × (hit x y ≡ 0)) → (0 < times x ys → Split x ys) → Split x (y ∷ ys)
-    go (inl e) ih = record { before = []; after = ys; is = ap (λ (z : ℕ). z ∷ ys) (sym (e .0)) }
-    go (inr e) ih = let v : Split x ys = ih (omega arith) in record { before = y ∷ v .before; after = v .after; is = ap (λ (l : List ℕ). y ∷ l) (v .is) }
+    go (inl e) ih = record { before = []; after = ys; is = ap (λ (z : ℕ). z ∷ ys) (sym e.0) }
+    go (inr e) ih = let v : Split x ys = ih (omega arith) in record { before = y ∷ v.before; after = v.after; is = ap (λ (l : List ℕ). y ∷ l) v.is }
 
 -- ---- the blocks from a on, m of them
 
-pub up-below : (a m i : ℕ) → i < a → times i (upFrom a m) ≡ 0
-unfolding upFrom
+pub up-below : (a m i : ℕ) → i < a → times i (up_from a m) ≡ 0
+unfolding up_from
 up-below a zero i l = refl
-up-below a (suc m) i l = omega (arith, hit-other i a (λ e. omega arith), up-below (suc a) m i (omega arith))
+up-below a (suc m) i l = omega (arith, hit_other i a (λ e. omega arith), up-below (suc a) m i (omega arith))
 
-pub up-above : (a m i : ℕ) → a + m ≤ i → times i (upFrom a m) ≡ 0
-unfolding upFrom
-up-above a zero i l = refl
-up-above a (suc m) i l = omega (arith, hit-other i a (λ e. omega arith), up-above (suc a) m i (omega arith))
+pub up_above : (a m i : ℕ) → a + m ≤ i → times i (up_from a m) ≡ 0
+unfolding up_from
+up_above a zero i l = refl
+up_above a (suc m) i l = omega (arith, hit_other i a (λ e. omega arith), up_above (suc a) m i (omega arith))
 
-pub up-times : (a m i : ℕ) → a ≤ i → i < a + m → times i (upFrom a m) ≡ 1
-unfolding upFrom
+pub up-times : (a m i : ℕ) → a ≤ i → i < a + m → times i (up_from a m) ≡ 1
+unfolding up_from
 up-times a zero i l u = absurd (omega arith)
 up-times a (suc m) i l u = go (hit-is i a) (λ k. up-times (suc a) m i k (omega arith))
   where
-    go : ((i ≡ a) × (hit i a ≡ 1)) ⊎ ((i ≢ a) × (hit i a ≡ 0)) → (suc a ≤ i → times i (upFrom (suc a) m) ≡ 1) → hit i a + times i (upFrom (suc a) m) ≡ 1
+    go : ((i ≡ a) × (hit i a ≡ 1)) ⊎ ((i ≢ a) × (hit i a ≡ 0)) → (suc a ≤ i → times i (up_from (suc a) m) ≡ 1) → hit i a + times i (up_from (suc a) m) ≡ 1
     go (inl e) ih = omega (arith, up-below (suc a) m i (omega arith))
-    go (inr e) ih = let n : i ≢ a = e .0 in omega (arith, ih (omega arith))
+    go (inr e) ih = let n : i ≢ a = e.0 in omega (arith, ih (omega arith))
 
-pub up-each : (a m i : ℕ) → 0 < times i (upFrom a m) → (a ≤ i) × (i < a + m)
-up-each a m i b = go (decLt i a) (decLt i (a + m))
+pub up-each : (a m i : ℕ) → 0 < times i (up_from a m) → (a ≤ i) × (i < a + m)
+up-each a m i b = go (dec_lt i a) (dec_lt i (a + m))
   where
     go : Dec (i < a) → Dec (i < a + m) → (a ≤ i) × (i < a + m)
     go (yes l) d = absurd (omega (arith, up-below a m i l))
     go (no l) (yes u) = (omega arith, u)
-    go (no l) (no u) = absurd (omega (arith, up-above a m i (omega arith)))
+    go (no l) (no u) = absurd (omega (arith, up_above a m i (omega arith)))
 
-pub up-once : (a m : ℕ) → Once (upFrom a m)
-up-once a m i = go (decLt i a) (decLt i (a + m))
+pub up-once : (a m : ℕ) → Once (up_from a m)
+up-once a m i = go (dec_lt i a) (dec_lt i (a + m))
   where
-    go : Dec (i < a) → Dec (i < a + m) → times i (upFrom a m) ≤ 1
+    go : Dec (i < a) → Dec (i < a + m) → times i (up_from a m) ≤ 1
     go (yes l) d = omega (arith, up-below a m i l)
     go (no l) (yes u) = omega (arith, up-times a m i (omega arith) u)
-    go (no l) (no u) = omega (arith, up-above a m i (omega arith))
+    go (no l) (no u) = omega (arith, up_above a m i (omega arith))
 
-pub up-length : (a m : ℕ) → length (upFrom a m) ≡ m
-unfolding upFrom
+pub up-length : (a m : ℕ) → length (up_from a m) ≡ m
+unfolding up_from
 up-length a zero = refl
 up-length a (suc m) = ap suc (up-length (suc a) m)

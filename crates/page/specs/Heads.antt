@@ -1,16 +1,11 @@
 -- Good and sound heads in plain numbers, and what a walk from a head tells: a list is damaged where no sequence of
 -- blocks runs from its head (document 01, The page; Damaged). No proof stands in this file.
-use Prim.Native.Nat.{ℕ, _*_, _/_, _%_, _≤_}
-use mathlib.Core.Path.{_≡_}
-use mathlib.Core.Logic.{_⊎_, _↔_}
-use mathlib.Core.Bool.{true, false}
-use mathlib.Core.List.{List, [], _∷_, _++_}
-use lib.ListN.{length}
-use Rattle·bitmap.specs.Bitmap.{bitAt}
-use Rattle·page·specs.specs.declared.Walked.{Walked}
-use Rattle·page·specs.specs.Page.{Lent, Rules, goodB, soundIn}
-use Rattle·page·specs.specs.Sequences.{Runs}
-use Rattle·page·specs.specs.Walk.{walkOf, lastOf, tally}
+use Rattle.std.specs.Prelude.{ℕ, ◌*◌, ◌/◌, ◌%◌, ◌≤◌, ◌≡◌, ◌⊎◌, ◌↔◌, true, false, List, [], ◌∷◌, ◌++◌, length}
+use Rattle.bitmap.specs.Bitmap.{bit_at}
+use Rattle.page.specs.declared.Walked.{Walked}
+use Rattle.page.specs.Page.{Lent, Rules, good_b, sound_in}
+use Rattle.page.specs.Sequences.{Runs}
+use Rattle.page.specs.Walk.{walk_of, last_of, tally}
 
 -- A good head is the address of a block: 8·bw divides it, and it is at least 8·bw and at most 8·bw·n, with bw from 1
 -- to 64.
@@ -22,33 +17,33 @@ pub record GoodHead (n bw h : ℕ) : Type 0 where
   pub high : h ≤ 8 * bw * n
 
 abbrev pub GoodIs : Type 0
-GoodIs = (n bw h : ℕ) → (goodB n bw h ≡ true) ↔ GoodHead n bw h
+GoodIs = (n bw h : ℕ) → (good_b n bw h ≡ true) ↔ GoodHead n bw h
 
 -- A sound head is 0 or the address of a listed block.
 abbrev pub SoundHead : Lent → ℕ → Type 0
-SoundHead c h = (h ≡ 0) ⊎ (GoodHead (c .n) (c .bw) h × (bitAt (c .bits) (h / (8 * c .bw)) ≡ 1))
+SoundHead c h = (h ≡ 0) ⊎ (GoodHead c.n c.bw h × (bit_at c.bits (h / (8 * c.bw)) ≡ 1))
 
 abbrev pub SoundIs : Type 0
-SoundIs = (c : Lent) (h : ℕ) → (soundIn c h ≡ true) ↔ SoundHead c h
+SoundIs = (c : Lent) (h : ℕ) → (sound_in c h ≡ true) ↔ SoundHead c h
 
 -- What a walk tells: that it came to 0, how many blocks it met, and the last of them; or that it did not, and nothing
 -- else.
 abbrev pub told : List ℕ → Walked
-told xs = record { sound = true; count = length xs; last = lastOf 0 xs }
+told xs = record { sound = true; count = length xs; last = last_of 0 xs }
 
 abbrev pub untold : Walked
 untold = record { sound = false; count = 0; last = 0 }
 
 -- A walk ends exactly where the list runs over a sequence, and it tells of that sequence.
 pub record Walks (c : Lent) (h : ℕ) : Type 0 where
-  pub ends : (walkOf c h .ends ≡ true) ↔ ((xs : List ℕ) × Runs c h xs)
-  pub blocks : (xs : List ℕ) → Runs c h xs → walkOf c h .blocks ≡ xs
-  pub tells : (xs : List ℕ) → Runs c h xs → tally 0 0 (walkOf c h) ≡ told xs
-  pub damaged : ((xs : List ℕ) → Runs c h xs → ⊥) → tally 0 0 (walkOf c h) ≡ untold
+  pub ends : ((walk_of c h).ends ≡ true) ↔ ((xs : List ℕ) × Runs c h xs)
+  pub blocks : (xs : List ℕ) → Runs c h xs → (walk_of c h).blocks ≡ xs
+  pub tells : (xs : List ℕ) → Runs c h xs → tally 0 0 (walk_of c h) ≡ told xs
+  pub damaged : ((xs : List ℕ) → Runs c h xs → ⊥) → tally 0 0 (walk_of c h) ≡ untold
 
 abbrev pub WalkEnds : Type 0
 WalkEnds = (c : Lent) (h : ℕ) → Rules c → Walks c h
 
 -- The last block is the one at the end, and where there is none, the number given for it.
 abbrev pub LastIs : Type 0
-LastIs = (i j : ℕ) (xs : List ℕ) → (lastOf i [] ≡ i) × (lastOf i (xs ++ (j ∷ [])) ≡ j)
+LastIs = (i j : ℕ) (xs : List ℕ) → (last_of i [] ≡ i) × (last_of i (xs ++ (j ∷ [])) ≡ j)

@@ -1,14 +1,14 @@
 -- The limits of a page (document 01, The page).
-use Prim.Native.Nat.{ℕ}
+use Rattle.std.specs.Prelude.{ℕ}
 
 -- blocks
-abbrev pub maxBlocks : ℕ
-maxBlocks = 4095
+abbrev pub max_blocks : ℕ
+max_blocks = 4095
 
 -- words of a block
-abbrev pub maxWidth : ℕ
-maxWidth = 64
+abbrev pub max_width : ℕ
+max_width = 64
 
 -- workers
-abbrev pub maxWorkers : ℕ
-maxWorkers = 8
+abbrev pub max_workers : ℕ
+max_workers = 8

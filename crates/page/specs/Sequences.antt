@@ -1,13 +1,8 @@
 -- The sequences of blocks that lists run over, and how often a block stands in them (document 01, The page).
 -- `at i` is the word where block i starts; its address is 8 times that.
-use Prim.Native.Nat.{ℕ, zero, suc, _+_, _*_, _≤_, _<_}
-use mathlib.Core.Path.{_≡_}
-use mathlib.Core.Bool.{Bool, true, false}
-use mathlib.Core.List.{List, [], _∷_}
-use lib.Dec.{eqb}
-use lib.ListN.{getD, set}
-use Rattle·bitmap.specs.Bitmap.{bitAt}
-use Rattle·page·specs.specs.Page.{Lent, place}
+use Rattle.std.specs.Prelude.{ℕ, zero, suc, ◌+◌, ◌*◌, ◌≤◌, ◌<◌, ◌≡◌, Bool, true, false, List, [], ◌∷◌, eqb, get_or, set}
+use Rattle.bitmap.specs.Bitmap.{bit_at}
+use Rattle.page.specs.Page.{Lent, place}
 
 -- ---- counting
 
@@ -37,9 +32,9 @@ abbrev pub Apart : List ℕ → List ℕ → Type 0
 Apart xs ys = (i : ℕ) → 0 < times i xs → times i ys ≡ 0
 
 -- a, a+1, .. a+m−1
-unfoldable pub upFrom : ℕ → ℕ → List ℕ
-upFrom a zero = []
-upFrom a (suc m) = a ∷ upFrom (suc a) m
+unfoldable pub up_from : ℕ → ℕ → List ℕ
+up_from a zero = []
+up_from a (suc m) = a ∷ up_from (suc a) m
 
 -- ---- lists linked inside a page
 
@@ -47,32 +42,32 @@ module _ (at : ℕ → ℕ) where
   -- from head h the links of page p lead over the blocks, in order, to 0
   abbrev pub Chain : List ℕ → ℕ → List ℕ → Type 0
   Chain p h [] = h ≡ 0
-  Chain p h (i ∷ is) = (h ≡ 8 * at i) × Chain p (getD p (at i) 0) is
+  Chain p h (i ∷ is) = (h ≡ 8 * at i) × Chain p (get_or p (at i) 0) is
 
   -- the head of blocks laid before a list with head h
-  abbrev pub headOf : ℕ → List ℕ → ℕ
-  headOf h [] = h
-  headOf h (i ∷ is) = 8 * at i
+  abbrev pub head_of : ℕ → List ℕ → ℕ
+  head_of h [] = h
+  head_of h (i ∷ is) = 8 * at i
 
   -- the page with those blocks' links written: each to the next, the last to h
   abbrev pub laid : List ℕ → ℕ → List ℕ → List ℕ
   laid p h [] = p
-  laid p h (i ∷ is) = set (laid p h is) (at i) (headOf h is)
+  laid p h (i ∷ is) = set (laid p h is) (at i) (head_of h is)
 
 -- block i is 1 to n and its bit is set
 pub record Listed (c : Lent) (i : ℕ) : Type 0 where
   pub low : 1 ≤ i
-  pub high : i ≤ c .n
-  pub bit : bitAt (c .bits) i ≡ 1
+  pub high : i ≤ c.n
+  pub bit : bit_at c.bits i ≡ 1
 
 -- the list with head h runs over the blocks xs, at sound addresses, to 0
 pub record Runs (c : Lent) (h : ℕ) (xs : List ℕ) : Type 0 where
-  pub chain : Chain (place (c .bw)) (c .page) h xs
+  pub chain : Chain (place c.bw) c.page h xs
   pub listed : Each (Listed c) xs
 
 -- a listed block that is not among the blocks xs stays listed, and its link stays
 pub record Stays (c d : Lent) (i : ℕ) : Type 0 where
-  pub link : getD (d .page) (place (d .bw) i) 0 ≡ getD (c .page) (place (c .bw) i) 0
+  pub link : get_or d.page (place d.bw i) 0 ≡ get_or c.page (place c.bw i) 0
   pub listed : Listed d i
 
 abbrev pub OthersStay : Lent → Lent → List ℕ → Type 0

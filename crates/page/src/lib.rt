@@ -1,13 +1,11 @@
 // The page: its rules, its addresses, and lists linked inside it. No public function has a requires: whatever numbers
 // and slices come, the answer is the definition's.
-ghost use mathlib.Core.Path.{_≡_};
-ghost use mathlib.Core.Bool.{cond, _&&_};
-ghost use Prim.Native.Nat.{_/_};
-ghost use lib.Dec.{leb};
-ghost use lib.ListN.{set};
-ghost use Rattle·page·specs.specs.Limits.{maxBlocks, maxWidth};
-ghost use Rattle·page·specs.specs.Page.{lent, fitsB, workersB, blockB, runB, addressOf, blockOf, linkAt, goodB, soundB};
-ghost use Rattle·page·specs.specs.Walk.{walkOf, tally};
+#![tactic(auto)]
+
+ghost use Rattle.std.specs.Prelude.{◌≡◌, cond, ◌&&◌, ◌/◌, leb, set};
+ghost use Rattle.page.specs.Limits.{max_blocks, max_width};
+ghost use Rattle.page.specs.Page.{lent, fits_b, workers_b, block_b, run_b, address_of, block_of, link_at, good_b, sound_b};
+ghost use Rattle.page.specs.Walk.{walk_of, tally};
 
 pub const MAX_BLOCKS: u64 = 4095;
 
@@ -17,7 +15,7 @@ pub const MAX_WORKERS: u64 = 8;
 
 // Whether n, bw and the two lengths keep the page rules.
 pub fn fits(n: u64, bw: u64, page_words: usize, bits_words: usize) -> bool
-    ensures { λ r. ⌜ r ≡ fitsB n bw «page_words» «bits_words» ⌝ }
+    ensures { result ≡ fits_b n bw page_words bits_words }
 {
     if n > MAX_BLOCKS || bw < 1 || bw > MAX_WIDTH {
         return false;
@@ -27,21 +25,21 @@ pub fn fits(n: u64, bw: u64, page_words: usize, bits_words: usize) -> bool
 
 // Whether there may be w workers.
 pub fn workers_fit(w: u64) -> bool
-    ensures { λ r. ⌜ r ≡ workersB w ⌝ }
+    ensures { result ≡ workers_b w }
 {
     1 <= w && w <= MAX_WORKERS
 }
 
 // Whether a is a block's number.
 pub fn is_block(n: u64, a: u64) -> bool
-    ensures { λ r. ⌜ r ≡ blockB n a ⌝ }
+    ensures { result ≡ block_b n a }
 {
     1 <= a && a <= n
 }
 
 // Whether a to a+b−1 are blocks' numbers, one at least. No sum is made that could wrap.
 pub fn is_run(n: u64, a: u64, b: u64) -> bool
-    ensures { λ r. ⌜ r ≡ runB n a b ⌝ }
+    ensures { result ≡ run_b n a b }
 {
     if !is_block(n, a) || b < 1 {
         return false;
@@ -51,7 +49,7 @@ pub fn is_run(n: u64, a: u64, b: u64) -> bool
 
 // The address of block a; 0, which means none, where a or bw is past its limit.
 pub fn address(bw: u64, a: u64) -> u64
-    ensures { λ r. ⌜ r ≡ cond (leb bw maxWidth && leb a maxBlocks) (addressOf bw a) 0 ⌝ }
+    ensures { result ≡ cond (leb bw max_width && leb a max_blocks) (address_of bw a) 0 }
 {
     if bw > MAX_WIDTH || a > MAX_BLOCKS {
         return 0;
@@ -61,7 +59,7 @@ pub fn address(bw: u64, a: u64) -> u64
 
 // The block at an address; 0 where bw is past its limits.
 pub fn block(bw: u64, h: u64) -> u64
-    ensures { λ r. ⌜ r ≡ cond (leb 1 bw && leb bw maxWidth) (blockOf bw h) 0 ⌝ }
+    ensures { result ≡ cond (leb 1 bw && leb bw max_width) (block_of bw h) 0 }
 {
     if bw < 1 || bw > MAX_WIDTH {
         return 0;
@@ -71,7 +69,7 @@ pub fn block(bw: u64, h: u64) -> u64
 
 // The link at an address; 0 past the page's end.
 pub fn link(page: &[u64], h: u64) -> u64
-    ensures { λ r. ⌜ r ≡ linkAt (now (page .entry)) h ⌝ }
+    ensures { result ≡ link_at page.now h }
 {
     let at = (h / 8) as usize;
     if at < page.len() {
@@ -82,7 +80,7 @@ pub fn link(page: &[u64], h: u64) -> u64
 
 // Writes the link at an address; past the page's end nothing changes.
 pub fn set_link(page: &mut [u64], h: u64, to: u64)
-    ensures { λ r. ⌜ now (page .exit) ≡ set (now (page .entry)) (h / 8) to ⌝ }
+    ensures { page.new ≡ set page.old (h / 8) to }
 {
     let at = (h / 8) as usize;
     if at < page.len() {
@@ -92,7 +90,7 @@ pub fn set_link(page: &mut [u64], h: u64, to: u64)
 
 // Whether h is the address of a block.
 pub fn good(n: u64, bw: u64, h: u64) -> bool
-    ensures { λ r. ⌜ r ≡ goodB n bw h ⌝ }
+    ensures { result ≡ good_b n bw h }
 {
     if bw < 1 || bw > MAX_WIDTH {
         return false;
@@ -104,12 +102,13 @@ pub fn good(n: u64, bw: u64, h: u64) -> bool
 
 // Whether h is 0, or the address of a block whose bit is set.
 pub fn sound(n: u64, bw: u64, bits: &[u64], h: u64) -> bool
-    ensures { λ r. ⌜ r ≡ soundB n bw (now (bits .entry)) h ⌝ }
+    ensures { result ≡ sound_b n bw bits.now h }
 {
     h == 0 || good(n, bw, h) && bitmap::is_set(bits, block(bw, h))
 }
 
 // What a walk tells: whether it came to 0, how many blocks it met, and the last of them (0 if none).
+#[derive(Clone, Copy)]
 pub struct Walked {
     pub sound: bool,
     pub count: u64,
@@ -118,7 +117,7 @@ pub struct Walked {
 
 // Walks a list from its head. It stops at n blocks: a ring would go on for ever.
 pub fn walk(head: u64, n: u64, bw: u64, page: &[u64], bits: &[u64]) -> Walked
-    ensures { λ r. ⌜ r ≡ tally 0 0 (walkOf (lent n bw (now (page .entry)) (now (bits .entry))) head) ⌝ }
+    ensures { result ≡ tally 0 0 (walk_of (lent n bw page.now bits.now) head) }
 {
     let mut h = head;
     let mut count = 0;

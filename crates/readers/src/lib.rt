@@ -1,37 +1,32 @@
 // The page rules with W, and the five readers over the page's numbers and the two slices. None changes anything, and
 // none has a requires.
-ghost use mathlib.Core.Path.{_≡_};
-ghost use mathlib.Core.Bool.{_&&_};
-ghost use Rattle·answers.specs.Rows.{answer};
-ghost use Rattle·page.specs.Page.{lent, fitsB, workersB};
-ghost use Rattle·readers·specs.specs.Readers.{listedCountOf, firstUnlistedOf, entryRefusal, entryOf, entryAnswerOf, equalLeading, compareRefusal, compareOf};
-use answers::Answer;
-use answers::BAD_PAGE;
-use answers::DONE;
-use answers::LISTED;
-use answers::NO_SUCH;
-use answers::NONE_LEFT;
-use page::fits;
-use page::is_block;
-use page::workers_fit;
+#![tactic(auto)]
+
+ghost use Rattle.std.specs.Prelude.{◌≡◌, ◌&&◌};
+ghost use Rattle.answers.specs.Rows.{answer};
+ghost use Rattle.page.specs.Page.{lent, fits_b, workers_b};
+ghost use Rattle.readers.specs.Readers.{listed_count_of, first_unlisted_of, entry_refusal, entry_of, entry_answer_of, equal_leading, compare_refusal, compare_of};
+
+use answers::{Answer, BAD_PAGE, DONE, LISTED, NO_SUCH, NONE_LEFT};
+use page::{fits, is_block, workers_fit};
 
 // Whether n, bw, the two lengths and W keep the page rules.
 pub fn rules(n: u64, bw: u64, w: u64, page_words: usize, bits_words: usize) -> bool
-    ensures { λ r. ⌜ r ≡ (fitsB n bw «page_words» «bits_words» && workersB w) ⌝ }
+    ensures { result ≡ (fits_b n bw page_words bits_words && workers_b w) }
 {
     fits(n, bw, page_words, bits_words) && workers_fit(w)
 }
 
 // A number that refuses: value 0.
 fn refuse(number: u64) -> Answer
-    ensures { λ r. ⌜ r ≡ answer number 0 ⌝ }
+    ensures { result ≡ answer number 0 }
 {
     Answer { number, value: 0 }
 }
 
 // How many blocks are listed.
 pub fn listed_count(n: u64, bw: u64, w: u64, page: &[u64], bits: &[u64]) -> Answer
-    ensures { λ r. ⌜ r ≡ listedCountOf (lent n bw (now (page .entry)) (now (bits .entry))) w ⌝ }
+    ensures { result ≡ listed_count_of (lent n bw page.now bits.now) w }
 {
     if !rules(n, bw, w, page.len(), bits.len()) {
         return refuse(BAD_PAGE);
@@ -44,7 +39,7 @@ pub fn listed_count(n: u64, bw: u64, w: u64, page: &[u64], bits: &[u64]) -> Answ
 
 // The smallest block that is not listed.
 pub fn first_unlisted(n: u64, bw: u64, w: u64, page: &[u64], bits: &[u64]) -> Answer
-    ensures { λ r. ⌜ r ≡ firstUnlistedOf (lent n bw (now (page .entry)) (now (bits .entry))) w ⌝ }
+    ensures { result ≡ first_unlisted_of (lent n bw page.now bits.now) w }
 {
     if !rules(n, bw, w, page.len(), bits.len()) {
         return refuse(BAD_PAGE);
@@ -61,7 +56,7 @@ pub fn first_unlisted(n: u64, bw: u64, w: u64, page: &[u64], bits: &[u64]) -> An
 
 // 2, 4 or 9 for block a's entry, or 0.
 fn entry_number(n: u64, bw: u64, w: u64, page: &[u64], bits: &[u64], a: u64) -> u64
-    ensures { λ r. ⌜ r ≡ entryRefusal (lent n bw (now (page .entry)) (now (bits .entry))) w a ⌝ }
+    ensures { result ≡ entry_refusal (lent n bw page.now bits.now) w a }
 {
     if !rules(n, bw, w, page.len(), bits.len()) {
         return BAD_PAGE;
@@ -77,7 +72,7 @@ fn entry_number(n: u64, bw: u64, w: u64, page: &[u64], bits: &[u64], a: u64) -> 
 
 // The part of the page after block a's link word, or an empty part where a number applies.
 pub fn entry<'a>(n: u64, bw: u64, w: u64, page: &'a [u64], bits: &[u64], a: u64) -> &'a [u64]
-    ensures { λ r. ⌜ now r ≡ entryOf (lent n bw (now (page .entry)) (now (bits .entry))) w a ⌝ }
+    ensures { result.now ≡ entry_of (lent n bw page.now bits.now) w a }
 {
     if entry_number(n, bw, w, page, bits, a) != DONE {
         return &page[0..0];
@@ -89,14 +84,14 @@ pub fn entry<'a>(n: u64, bw: u64, w: u64, page: &'a [u64], bits: &[u64], a: u64)
 
 // Which number applies to block a's entry.
 pub fn entry_answer(n: u64, bw: u64, w: u64, page: &[u64], bits: &[u64], a: u64) -> Answer
-    ensures { λ r. ⌜ r ≡ entryAnswerOf (lent n bw (now (page .entry)) (now (bits .entry))) w a ⌝ }
+    ensures { result ≡ entry_answer_of (lent n bw page.now bits.now) w a }
 {
     refuse(entry_number(n, bw, w, page, bits, a))
 }
 
 // How many words are equal before the first that differ.
 fn equal_leading(x: &[u64], y: &[u64]) -> u64
-    ensures { λ r. ⌜ r ≡ equalLeading (now (x .entry)) (now (y .entry)) ⌝ }
+    ensures { result ≡ equal_leading x.now y.now }
 {
     let mut i: usize = 0;
     while i < x.len() {
@@ -113,7 +108,7 @@ fn equal_leading(x: &[u64], y: &[u64]) -> u64
 
 // 2, 4 or 9 for either of two entries, or 0.
 fn compare_number(n: u64, bw: u64, w: u64, page: &[u64], bits: &[u64], a: u64, b: u64) -> u64
-    ensures { λ r. ⌜ r ≡ compareRefusal (lent n bw (now (page .entry)) (now (bits .entry))) w a b ⌝ }
+    ensures { result ≡ compare_refusal (lent n bw page.now bits.now) w a b }
 {
     if !rules(n, bw, w, page.len(), bits.len()) {
         return BAD_PAGE;
@@ -143,7 +138,7 @@ pub fn compare_entries(
     a: u64,
     b: u64,
 ) -> Answer
-    ensures { λ r. ⌜ r ≡ compareOf (lent n bw (now (page .entry)) (now (bits .entry))) w a b ⌝ }
+    ensures { result ≡ compare_of (lent n bw page.now bits.now) w a b }
 {
     let number = compare_number(n, bw, w, page, bits, a, b);
     if number != DONE {

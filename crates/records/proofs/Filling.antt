@@ -1,64 +1,64 @@
 -- What a fill leaves, turn by turn: the statement of `Filled`, and that a fill which ends on a record's end used
 -- every byte. Assumes nothing.
-use Prim.Native.Nat.{ℕ, zero, suc, _+_, _-_, _*_, _/_, _≤_, _<_}
-use mathlib.Core.Path.{_≡_, refl, sym, ap, _∙_, subst}
-use mathlib.Core.Logic.{_≢_}
+use Prim.Native.Nat.{ℕ, zero, suc, ◌+◌, ◌-◌, ◌*◌, ◌/◌, ◌≤◌, ◌<◌}
+use mathlib.Core.Path.{◌≡◌, refl, sym, ap, ◌∙◌, subst}
+use mathlib.Core.Logic.{◌≢◌}
 use mathlib.Core.Bool.{Bool, true, false, cond}
 use mathlib.Core.List.{List}
 use native.Mathlib.Omega.{arith}
-use native.Mathlib.Decide.{decLt}
+use native.Mathlib.Decide.{dec_lt}
 use lib.Dec.{eqb, ltb}
-use lib.ListN.{length, getD, set, length-set}
-use lib.Seq.{getD-set-same, getD-set-other}
+use lib.ListN.{length, get_or, set, length-set}
+use lib.Seq.{get_or-set_same, get_or-set_other}
 use borrow.Author.Tests.{eqb-true, eqb-false, ltb-true, ltb-false}
-use Rattle·records·specs.specs.declared.Event.{Event}
-use Rattle·records·specs.specs.declared.Decoded.{Decoded}
-use Rattle·records·specs.specs.declared.Decoded.the-variants.{Event as event, End, Cut, Unknown}
-use Rattle·records·specs.specs.Records.{eventAt, decodeAt}
-use Rattle·records·specs.specs.Fill.{ended, cut, unknown, noRoom, going, Filling, filling, putEvent, putNext, next, fillIn, fillOf}
-use Rattle·records·specs.specs.Filled.{EventStands, whyOf, FillHolds, Stopped, FillTells}
-use Rattle·records·proofs.proofs.Decoding.{event-whole, end-past}
+use Rattle.records.specs.declared.Event.{Event}
+use Rattle.records.specs.declared.Decoded.{Decoded}
+use Rattle.records.specs.declared.Decoded.TheVariants.{Event as event, End, Cut, Unknown}
+use Rattle.records.specs.Records.{event_at, decode_at}
+use Rattle.records.specs.Fill.{ended, cut, unknown, no_room, going, Filling, filling, put_event, put_next, next, fill_in, fill_of}
+use Rattle.records.specs.Filled.{EventStands, why_of, FillHolds, Stopped, FillTells}
+use Rattle.records.proofs.Decoding.{event-whole, end-past}
 
 -- ---- the five stores
 
 module _ (words : List ℕ) (to : ℕ) (e : Event) where
   w1 : List ℕ
-  w1 = set words to (e .kind)
+  w1 = set words to e.kind
 
   w2 : List ℕ
-  w2 = set w1 (to + 1) (e .worker)
+  w2 = set w1 (to + 1) e.worker
 
   w3 : List ℕ
-  w3 = set w2 (to + 2) (e .code)
+  w3 = set w2 (to + 2) e.code
 
   w4 : List ℕ
-  w4 = set w3 (to + 3) (e .a)
+  w4 = set w3 (to + 3) e.a
 
-  put-length : length (putEvent words to e) ≡ length words
+  put-length : length (put_event words to e) ≡ length words
   put-length = simp length-set
 
   -- a word past the third, second, first of them, and past none
-  past-3 : (j : ℕ) → j ≢ to + 4 → getD (putEvent words to e) j 0 ≡ getD w4 j 0
+  past-3 : (j : ℕ) → j ≢ to + 4 → get_or (put_event words to e) j 0 ≡ get_or w4 j 0
   unfolding w1 w2 w3 w4
-  past-3 j h = getD-set-other w4 (to + 4) j (e .b) 0 h
+  past-3 j h = get_or-set_other w4 (to + 4) j e.b 0 h
 
-  past-2 : (j : ℕ) → j ≢ to + 4 → j ≢ to + 3 → getD (putEvent words to e) j 0 ≡ getD w3 j 0
+  past-2 : (j : ℕ) → j ≢ to + 4 → j ≢ to + 3 → get_or (put_event words to e) j 0 ≡ get_or w3 j 0
   unfolding w4
-  past-2 j h g = past-3 j h ∙ getD-set-other w3 (to + 3) j (e .a) 0 g
+  past-2 j h g = past-3 j h ∙ get_or-set_other w3 (to + 3) j e.a 0 g
 
-  past-1 : (j : ℕ) → j ≢ to + 4 → j ≢ to + 3 → j ≢ to + 2 → getD (putEvent words to e) j 0 ≡ getD w2 j 0
+  past-1 : (j : ℕ) → j ≢ to + 4 → j ≢ to + 3 → j ≢ to + 2 → get_or (put_event words to e) j 0 ≡ get_or w2 j 0
   unfolding w3
-  past-1 j h g f = past-2 j h g ∙ getD-set-other w2 (to + 2) j (e .code) 0 f
+  past-1 j h g f = past-2 j h g ∙ get_or-set_other w2 (to + 2) j e.code 0 f
 
-  past-0 : (j : ℕ) → j ≢ to + 4 → j ≢ to + 3 → j ≢ to + 2 → j ≢ to + 1 → getD (putEvent words to e) j 0 ≡ getD w1 j 0
+  past-0 : (j : ℕ) → j ≢ to + 4 → j ≢ to + 3 → j ≢ to + 2 → j ≢ to + 1 → get_or (put_event words to e) j 0 ≡ get_or w1 j 0
   unfolding w2
-  past-0 j h g f d = past-1 j h g f ∙ getD-set-other w1 (to + 1) j (e .worker) 0 d
+  past-0 j h g f d = past-1 j h g f ∙ get_or-set_other w1 (to + 1) j e.worker 0 d
 
-  put-other : (j : ℕ) → j ≢ to + 4 → j ≢ to + 3 → j ≢ to + 2 → j ≢ to + 1 → j ≢ to → getD (putEvent words to e) j 0 ≡ getD words j 0
+  put_other : (j : ℕ) → j ≢ to + 4 → j ≢ to + 3 → j ≢ to + 2 → j ≢ to + 1 → j ≢ to → get_or (put_event words to e) j 0 ≡ get_or words j 0
   unfolding w1
-  put-other j h g f d b = past-0 j h g f d ∙ getD-set-other words to j (e .kind) 0 b
+  put_other j h g f d b = past-0 j h g f d ∙ get_or-set_other words to j e.kind 0 b
 
-  put-stands : to + 5 ≤ length words → EventStands (putEvent words to e) to e
+  put-stands : to + 5 ≤ length words → EventStands (put_event words to e) to e
   unfolding w1 w2 w3 w4
   put-stands h =
       let l1 : length w1 ≡ length words = simp length-set in
@@ -66,103 +66,103 @@ module _ (words : List ℕ) (to : ℕ) (e : Event) where
       let l3 : length w3 ≡ length words = simp length-set in
       let l4 : length w4 ≡ length words = simp length-set in
       record {
-        kind = past-0 to (omega arith) (omega arith) (omega arith) (omega arith) ∙ getD-set-same words to (e .kind) 0 (omega arith);
-        worker = past-1 (to + 1) (omega arith) (omega arith) (omega arith) ∙ getD-set-same w1 (to + 1) (e .worker) 0 (omega arith);
-        code = past-2 (to + 2) (omega arith) (omega arith) ∙ getD-set-same w2 (to + 2) (e .code) 0 (omega arith);
-        a = past-3 (to + 3) (omega arith) ∙ getD-set-same w3 (to + 3) (e .a) 0 (omega arith);
-        b = getD-set-same w4 (to + 4) (e .b) 0 (omega arith);
+        kind = past-0 to (omega arith) (omega arith) (omega arith) (omega arith) ∙ get_or-set_same words to e.kind 0 (omega arith);
+        worker = past-1 (to + 1) (omega arith) (omega arith) (omega arith) ∙ get_or-set_same w1 (to + 1) e.worker 0 (omega arith);
+        code = past-2 (to + 2) (omega arith) (omega arith) ∙ get_or-set_same w2 (to + 2) e.code 0 (omega arith);
+        a = past-3 (to + 3) (omega arith) ∙ get_or-set_same w3 (to + 3) e.a 0 (omega arith);
+        b = get_or-set_same w4 (to + 4) e.b 0 (omega arith);
       }
 
 -- an event stands yet where another is put behind it
-stands-behind : (words : List ℕ) (i to : ℕ) (e d : Event) → i + 5 ≤ to → EventStands words i e → EventStands (putEvent words to d) i e
+stands-behind : (words : List ℕ) (i to : ℕ) (e d : Event) → i + 5 ≤ to → EventStands words i e → EventStands (put_event words to d) i e
 stands-behind words i to e d h s =
     record {
-      kind = below i (omega arith) ∙ s .kind;
-      worker = below (i + 1) (omega arith) ∙ s .worker;
-      code = below (i + 2) (omega arith) ∙ s .code;
-      a = below (i + 3) (omega arith) ∙ s .a;
-      b = below (i + 4) (omega arith) ∙ s .b;
+      kind = below i (omega arith) ∙ s.kind;
+      worker = below (i + 1) (omega arith) ∙ s.worker;
+      code = below (i + 2) (omega arith) ∙ s.code;
+      a = below (i + 3) (omega arith) ∙ s.a;
+      b = below (i + 4) (omega arith) ∙ s.b;
     }
   where
-    below : (j : ℕ) → j < to → getD (putEvent words to d) j 0 ≡ getD words j 0
-    below j l = put-other words to d j (omega arith) (omega arith) (omega arith) (omega arith) (omega arith)
+    below : (j : ℕ) → j < to → get_or (put_event words to d) j 0 ≡ get_or words j 0
+    below j l = put_other words to d j (omega arith) (omega arith) (omega arith) (omega arith) (omega arith)
 
 -- ---- after any number of turns
 
 module _ (bytes words : List ℕ) where
   record After (t : ℕ) (f : Filling) : Type 0 where
     holds : FillHolds bytes words f
-    all-used : f .stop ≡ going → f .records ≡ t
-    stopped : f .stop ≢ going → Stopped bytes words f
+    all-used : f.stop ≡ going → f.records ≡ t
+    stopped : f.stop ≢ going → Stopped bytes words f
 
   -- one record more
   more : (k : ℕ) (w : List ℕ) (s : ℕ) → FillHolds bytes words (filling k s w) → 8 * k + 8 ≤ length bytes → 5 * k + 5 ≤ length words
-      → decodeAt bytes (8 * k) ≡ event (eventAt bytes (8 * k)) → FillHolds bytes words (filling (k + 1) going (putEvent w (5 * k) (eventAt bytes (8 * k))))
+      → decode_at bytes (8 * k) ≡ event (event_at bytes (8 * k)) → FillHolds bytes words (filling (k + 1) going (put_event w (5 * k) (event_at bytes (8 * k))))
   more k w s h u r d =
-      let e = eventAt bytes (8 * k) in
+      let e = event_at bytes (8 * k) in
       record {
         used = omega arith;
         room = omega arith;
-        size = put-length w (5 * k) e ∙ h .size;
-        found = λ i l. found i l (decLt i k);
-        stands = λ i l. stands i l (decLt i k);
-        past = λ j l. put-other w (5 * k) e j (omega arith) (omega arith) (omega arith) (omega arith) (omega arith) ∙ h .past j (omega arith);
+        size = put-length w (5 * k) e ∙ h.size;
+        found = λ i l. found i l (dec_lt i k);
+        stands = λ i l. stands i l (dec_lt i k);
+        past = λ j l. put_other w (5 * k) e j (omega arith) (omega arith) (omega arith) (omega arith) (omega arith) ∙ h.past j (omega arith);
       }
     where
-      found : (i : ℕ) → i < k + 1 → Dec (i < k) → decodeAt bytes (8 * i) ≡ event (eventAt bytes (8 * i))
-      found i l (yes b) = h .found i b
+      found : (i : ℕ) → i < k + 1 → Dec (i < k) → decode_at bytes (8 * i) ≡ event (event_at bytes (8 * i))
+      found i l (yes b) = h.found i b
       found i l (no b) =
           let z : i ≡ k = omega arith in
-          subst (λ (x : ℕ). decodeAt bytes (8 * x) ≡ event (eventAt bytes (8 * x))) (sym z) d
+          subst (λ (x : ℕ). decode_at bytes (8 * x) ≡ event (event_at bytes (8 * x))) (sym z) d
 
-      stands : (i : ℕ) → i < k + 1 → Dec (i < k) → EventStands (putEvent w (5 * k) (eventAt bytes (8 * k))) (5 * i) (eventAt bytes (8 * i))
-      stands i l (yes b) = stands-behind w (5 * i) (5 * k) (eventAt bytes (8 * i)) (eventAt bytes (8 * k)) (omega arith) (h .stands i b)
+      stands : (i : ℕ) → i < k + 1 → Dec (i < k) → EventStands (put_event w (5 * k) (event_at bytes (8 * k))) (5 * i) (event_at bytes (8 * i))
+      stands i l (yes b) = stands-behind w (5 * i) (5 * k) (event_at bytes (8 * i)) (event_at bytes (8 * k)) (omega arith) (h.stands i b)
       stands i l (no b) =
           let z : i ≡ k = omega arith in
-          subst (λ (x : ℕ). EventStands (putEvent w (5 * k) (eventAt bytes (8 * k))) (5 * x) (eventAt bytes (8 * x))) (sym z)
-          (put-stands w (5 * k) (eventAt bytes (8 * k)) (omega (arith, h .size)))
+          subst (λ (x : ℕ). EventStands (put_event w (5 * k) (event_at bytes (8 * k))) (5 * x) (event_at bytes (8 * x))) (sym z)
+          (put-stands w (5 * k) (event_at bytes (8 * k)) (omega (arith, h.size)))
 
   -- a stop leaves what held
-  stop : (t : ℕ) (f : Filling) → After t f → (s : ℕ) → s ≢ going → s ≡ whyOf (decodeAt bytes (8 * f .records)) → (s ≡ noRoom → length words < 5 * f .records + 5)
-      → After (suc t) (filling (f .records) s (f .words))
+  stop : (t : ℕ) (f : Filling) → After t f → (s : ℕ) → s ≢ going → s ≡ why_of (decode_at bytes (8 * f.records)) → (s ≡ no_room → length words < 5 * f.records + 5)
+      → After (suc t) (filling f.records s f.words)
   stop t f h s g w r =
-      let o = h .holds in
+      let o = h.holds in
       record {
-        holds = record { used = o .used; room = o .room; size = o .size; found = o .found; stands = o .stands; past = o .past };
+        holds = record { used = o.used; room = o.room; size = o.size; found = o.found; stands = o.stands; past = o.past };
         all-used = λ z. absurd (g z);
         stopped = λ _. record { why = w; full = r };
       }
 
   -- what was decoded, put behind the others
-  put : (t : ℕ) (f : Filling) → After t f → f .stop ≡ going → (d : Decoded) → decodeAt bytes (8 * f .records) ≡ d → After (suc t) (putNext (f .records) (f .words) d)
-  put t f h g End e = stop t f h ended (λ z. absurd (omega arith)) (ap whyOf (sym e)) (λ z. absurd (omega arith))
-  put t f h g Cut e = stop t f h cut (λ z. absurd (omega arith)) (ap whyOf (sym e)) (λ z. absurd (omega arith))
-  put t f h g Unknown e = stop t f h unknown (λ z. absurd (omega arith)) (ap whyOf (sym e)) (λ z. absurd (omega arith))
-  put t f h g (event v) e = fits (ltb (length (f .words) - 5 * f .records) 5) refl
+  put : (t : ℕ) (f : Filling) → After t f → f.stop ≡ going → (d : Decoded) → decode_at bytes (8 * f.records) ≡ d → After (suc t) (put_next f.records f.words d)
+  put t f h g End e = stop t f h ended (λ z. absurd (omega arith)) (ap why_of (sym e)) (λ z. absurd (omega arith))
+  put t f h g Cut e = stop t f h cut (λ z. absurd (omega arith)) (ap why_of (sym e)) (λ z. absurd (omega arith))
+  put t f h g Unknown e = stop t f h unknown (λ z. absurd (omega arith)) (ap why_of (sym e)) (λ z. absurd (omega arith))
+  put t f h g (event v) e = fits (ltb (length f.words - 5 * f.records) 5) refl
     where
-      fits : (b : Bool) → ltb (length (f .words) - 5 * f .records) 5 ≡ b
-          → After (suc t) (cond b (filling (f .records) noRoom (f .words)) (filling (f .records + 1) going (putEvent (f .words) (5 * f .records) v)))
-      fits true r = stop t f h noRoom (λ z. absurd (omega arith)) (ap whyOf (sym e)) (λ _. omega (arith, ltb-true, h .holds .size))
+      fits : (b : Bool) → ltb (length f.words - 5 * f.records) 5 ≡ b
+          → After (suc t) (cond b (filling f.records no_room f.words) (filling (f.records + 1) going (put_event f.words (5 * f.records) v)))
+      fits true r = stop t f h no_room (λ z. absurd (omega arith)) (ap why_of (sym e)) (λ _. omega (arith, ltb-true, h.holds.size))
       fits false r =
-          let w = event-whole bytes (8 * f .records) e in
+          let w = event-whole bytes (8 * f.records) e in
           record {
             holds =
-                subst (λ (x : Event). FillHolds bytes words (filling (f .records + 1) going (putEvent (f .words) (5 * f .records) x))) (sym (w .1))
-                (more (f .records) (f .words) (f .stop) (h .holds) (w .0) (omega (arith, ltb-false, h .holds .size)) (e ∙ ap event (w .1)));
-            all-used = λ _. omega (arith, h .all-used g);
+                subst (λ (x : Event). FillHolds bytes words (filling (f.records + 1) going (put_event f.words (5 * f.records) x))) (sym w.1)
+                (more f.records f.words f.stop h.holds w.0 (omega (arith, ltb-false, h.holds.size)) (e ∙ ap event w.1));
+            all-used = λ _. omega (arith, h.all-used g);
             stopped = λ z. absurd (z refl);
           }
 
   -- a turn
-  turn : (t : ℕ) (f : Filling) → After t f → (b : Bool) → eqb (f .stop) going ≡ b → After (suc t) (next bytes f)
+  turn : (t : ℕ) (f : Filling) → After t f → (b : Bool) → eqb f.stop going ≡ b → After (suc t) (next bytes f)
   unfolding next
-  turn t f h true e = rw e (put t f h (eqb-true _ _ e) (decodeAt bytes (8 * f .records)) refl)
+  turn t f h true e = rw e (put t f h (eqb-true _ _ e) (decode_at bytes (8 * f.records)) refl)
   turn t f h false e =
-      let g : f .stop ≢ going = eqb-false _ _ e in
-      rw e (record { holds = h .holds; all-used = λ z. absurd (g z); stopped = h .stopped })
+      let g : f.stop ≢ going = eqb-false _ _ e in
+      rw e (record { holds = h.holds; all-used = λ z. absurd (g z); stopped = h.stopped })
 
-  after : (t : ℕ) → After t (fillIn bytes t words)
-  unfolding fillIn
+  after : (t : ℕ) → After t (fill_in bytes t words)
+  unfolding fill_in
   after zero =
       record {
         holds =
@@ -177,37 +177,37 @@ module _ (bytes words : List ℕ) where
         all-used = λ _. refl;
         stopped = λ z. absurd (z refl);
       }
-  after (suc t) = turn t (fillIn bytes t words) (after t) (eqb (fillIn bytes t words .stop) going) refl
+  after (suc t) = turn t (fill_in bytes t words) (after t) (eqb (fill_in bytes t words).stop going) refl
 
-  pub holds-at : (t : ℕ) {f : Filling} → fillIn bytes t words ≡ f → FillHolds bytes words f
-  holds-at t e = subst (FillHolds bytes words) e (after t .holds)
+  pub holds_at : (t : ℕ) {f : Filling} → fill_in bytes t words ≡ f → FillHolds bytes words f
+  holds_at t e = subst (FillHolds bytes words) e (after t).holds
 
   -- ---- the whole
 
   -- it stops
-  pub fill-stops : fillOf bytes words .stop ≢ going
-  fill-stops z =
+  pub fill_stops : (fill_of bytes words).stop ≢ going
+  fill_stops z =
       let a = after (length bytes / 8 + 1) in
-      omega (arith, a .all-used z, a .holds .used)
+      omega (arith, a.all-used z, a.holds.used)
 
-  pub fill-holds : FillHolds bytes words (fillOf bytes words)
-  fill-holds = after (length bytes / 8 + 1) .holds
+  pub fill_holds : FillHolds bytes words (fill_of bytes words)
+  fill_holds = (after (length bytes / 8 + 1)).holds
 
-  pub fill-why : Stopped bytes words (fillOf bytes words)
-  fill-why = after (length bytes / 8 + 1) .stopped fill-stops
+  pub fill-why : Stopped bytes words (fill_of bytes words)
+  fill-why = (after (length bytes / 8 + 1)).stopped fill_stops
 
   -- where the bytes ended, all of them are used
-  pub fill-whole : fillOf bytes words .stop ≡ ended → 8 * fillOf bytes words .records ≡ length bytes
+  pub fill-whole : (fill_of bytes words).stop ≡ ended → 8 * (fill_of bytes words).records ≡ length bytes
   fill-whole z =
-      let f = fillOf bytes words in
-      let past = end-past bytes (8 * f .records) (why-end (decodeAt bytes (8 * f .records)) (sym (fill-why .why) ∙ z)) in
-      omega (arith, past, fill-holds .used)
+      let f = fill_of bytes words in
+      let past = end-past bytes (8 * f.records) (why-end (decode_at bytes (8 * f.records)) (sym fill-why.why ∙ z)) in
+      omega (arith, past, fill_holds.used)
     where
-      why-end : (d : Decoded) → whyOf d ≡ ended → d ≡ End
+      why-end : (d : Decoded) → why_of d ≡ ended → d ≡ End
       why-end End e = refl
       why-end Cut e = absurd (omega arith)
       why-end Unknown e = absurd (omega arith)
       why-end (event v) e = absurd (omega arith)
 
 pub fill-tells : FillTells
-fill-tells bytes words = (fill-holds bytes words, fill-why bytes words)
+fill-tells bytes words = (fill_holds bytes words, fill-why bytes words)

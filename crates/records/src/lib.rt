@@ -1,12 +1,13 @@
 // Records to events: 8 bytes have a mark of two, worker, code, and two each for a and b, the low one first. No public
 // function has a requires: any bytes, at any place, and any room for the events.
-ghost use mathlib.Core.Path.{_≡_};
-ghost use Prim.Native.Nat.{_+_, _*_, _≤_};
-ghost use lib.ListN.{length};
-ghost use Rattle·records·specs.specs.Records.{isMark, kindOf, twoBytes, eventAt, decodeAt};
-ghost use Rattle·records·specs.specs.Fill.{going, putEvent, turned, filling, next, came, fillOf};
+#![tactic(auto)]
+
+ghost use Rattle.std.specs.Prelude.{◌≡◌, ◌+◌, ◌*◌, ◌≤◌, length};
+ghost use Rattle.records.specs.Records.{is_mark, kind_of, two_bytes, event_at, decode_at};
+ghost use Rattle.records.specs.Fill.{going, put_event, turned, filling, next, came, fill_of};
 
 // What a record asks for. A move's flag is its code: nonzero is set.
+#[derive(Clone, Copy)]
 pub struct Event {
     pub kind: u64,
     pub worker: u64,
@@ -16,6 +17,7 @@ pub struct Event {
 }
 
 // What stands at a place of the bytes.
+#[derive(Clone, Copy)]
 pub enum Decoded {
     // a whole record with a known mark
     Event(Event),
@@ -28,6 +30,7 @@ pub enum Decoded {
 }
 
 // How many records were decoded, and why no more.
+#[derive(Clone, Copy)]
 pub struct Filled {
     pub records: u64,
     pub stop: u64,
@@ -56,28 +59,28 @@ const GOING: u64 = 4;
 
 // A byte as a word.
 fn wide(x: u8) -> u64
-    ensures { λ r. ⌜ r ≡ x ⌝ }
+    ensures { result ≡ x }
 {
     x as u64
 }
 
 // The number of two bytes, low first.
 fn two_bytes(low: u8, high: u8) -> u64
-    ensures { λ r. ⌜ r ≡ twoBytes low high ⌝ }
+    ensures { result ≡ two_bytes low high }
 {
     wide(low) + 256 * wide(high)
 }
 
 // Whether two bytes are the mark x y.
 fn is_mark(x: u8, y: u8, first: u8, second: u8) -> bool
-    ensures { λ r. ⌜ r ≡ isMark x y first second ⌝ }
+    ensures { result ≡ is_mark x y first second }
 {
     first == x && second == y
 }
 
 // The kind that a mark stands for; 0 if none.
 fn mark_kind(first: u8, second: u8) -> u64
-    ensures { λ r. ⌜ r ≡ kindOf first second ⌝ }
+    ensures { result ≡ kind_of first second }
 {
     if is_mark(0x53, 0x55, first, second) {
         return REQUEST;
@@ -96,8 +99,8 @@ fn mark_kind(first: u8, second: u8) -> u64
 
 // The event of the 8 bytes from at on.
 fn event_at(bytes: &[u8], at: usize) -> Event
-    requires { ⌜ at + 8 ≤ length (now bytes) ⌝ }
-    ensures { λ r. ⌜ r ≡ eventAt (now (bytes .entry)) at ⌝ }
+    requires { at + 8 ≤ length bytes.now }
+    ensures { result ≡ event_at bytes.now at }
 {
     Event {
         kind: mark_kind(bytes[at], bytes[at + 1]),
@@ -110,7 +113,7 @@ fn event_at(bytes: &[u8], at: usize) -> Event
 
 // What stands at a place.
 pub fn decode(bytes: &[u8], at: usize) -> Decoded
-    ensures { λ r. ⌜ r ≡ decodeAt (now (bytes .entry)) at ⌝ }
+    ensures { result ≡ decode_at bytes.now at }
 {
     if bytes.len() <= at {
         return Decoded::End;
@@ -127,8 +130,8 @@ pub fn decode(bytes: &[u8], at: usize) -> Decoded
 
 // Writes an event's five words from to on.
 fn put(words: &mut [u64], to: usize, event: Event)
-    requires { ⌜ to + 5 ≤ length (now words) ⌝ }
-    ensures { λ _. ⌜ now (words .exit) ≡ putEvent (now (words .entry)) to event ⌝ }
+    requires { to + 5 ≤ length words.old }
+    ensures { words.new ≡ put_event words.old to event }
 {
     words[to] = event.kind;
     words[to + 1] = event.worker;
@@ -139,8 +142,8 @@ fn put(words: &mut [u64], to: usize, event: Event)
 
 // Puts the event of record k behind the k before it; says why that cannot be, or `GOING`.
 fn fill_one(bytes: &[u8], events: &mut [u64], k: u64) -> u64
-    requires { ⌜ (8 * k ≤ length (now bytes)) × (5 * k ≤ length (now events)) ⌝ }
-    ensures { λ r. ⌜ turned k r (now (events .exit)) ≡ next (now (bytes .entry)) (filling k going (now (events .entry))) ⌝ }
+    requires { (8 * k ≤ length bytes.now) × (5 * k ≤ length events.old) }
+    ensures { turned k result events.new ≡ next bytes.now (filling k going events.old) }
 {
     let at = (8 * k) as usize;
     let to = (5 * k) as usize;
@@ -162,7 +165,7 @@ fn fill_one(bytes: &[u8], events: &mut [u64], k: u64) -> u64
 // end, at a cut record, at an unknown mark, or where five more words have no room. The first 8 * records bytes are
 // used.
 pub fn fill(bytes: &[u8], events: &mut [u64]) -> Filled
-    ensures { λ r. ⌜ came r (now (events .exit)) ≡ fillOf (now (bytes .entry)) (now (events .entry)) ⌝ }
+    ensures { came result events.new ≡ fill_of bytes.now events.old }
 {
     let mut records: u64 = 0;
     loop {

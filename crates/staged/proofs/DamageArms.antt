@@ -1,49 +1,49 @@
 -- The damage test by its parts: one that holds decides it, and where it does not hold none of them does. Assumes
 -- nothing.
-use Prim.Native.Nat.{ℕ, zero, suc, _+_, _≤_, _<_}
-use mathlib.Core.Path.{_≡_, refl, sym, ap, _∙_}
-use mathlib.Core.Bool.{Bool, true, false, not, _&&_, _||_, or-false}
-use mathlib.Core.List.{List, [], _∷_}
-use native.Mathlib.Decide.{decLt}
+use Prim.Native.Nat.{ℕ, zero, suc, ◌+◌, ◌≤◌, ◌<◌}
+use mathlib.Core.Path.{◌≡◌, refl, sym, ap, ◌∙◌}
+use mathlib.Core.Bool.{Bool, true, false, not, ◌&&◌, ◌||◌, or-false}
+use mathlib.Core.List.{List, [], ◌∷◌}
+use native.Mathlib.Decide.{dec_lt}
 use native.Mathlib.Omega.{arith}
 use native.Mathlib.Numerals.{add-one}
 use lib.Dec.{eqb}
-use lib.ListN.{getD, drop}
+use lib.ListN.{get_or, drop}
 use borrow.Author.Tests.{eqb-true, not-false}
-use Rattle·answers.proofs.Rows.{and-left, and-right}
-use Rattle·page.specs.Limits.{maxBlocks}
-use Rattle·page.specs.Page.{Rules, blockB, listedB}
-use Rattle·page.specs.Sequences.{Listed}
-use Rattle·page.proofs.Rules.{block-facts}
-use Rattle·operations.specs.Operations.{setTag, pushesB, fullB, writing, pairedB}
-use Rattle·operations.proofs.PairArms.{writing-pushes}
-use Rattle·operations.proofs.Tells.{tells-not}
-use Rattle·staged·specs.specs.Workers.{maxTag}
-use Rattle·staged·specs.specs.Damage.{Turn, any, handBad, damageTests, damagedB}
-use Rattle·staged·specs.specs.Damaged.{highTag}
-use Rattle·staged·specs.specs.Moves.{Fitting}
-use Rattle·staged·proofs.proofs.Damaged.{tells-damaged}
+use Rattle.answers.proofs.Rows.{and_left, and_right}
+use Rattle.page.specs.Limits.{max_blocks}
+use Rattle.page.specs.Page.{Rules, block_b, listed_b}
+use Rattle.page.specs.Sequences.{Listed}
+use Rattle.page.proofs.Rules.{block-facts}
+use Rattle.operations.specs.Operations.{set_tag, pushes_b, full_b, writing, paired_b}
+use Rattle.operations.proofs.PairArms.{writing-pushes}
+use Rattle.operations.proofs.Tells.{tells-not}
+use Rattle.staged.specs.Workers.{max_tag}
+use Rattle.staged.specs.Damage.{Turn, any, hand_bad, damage_tests, damaged_b}
+use Rattle.staged.specs.Damaged.{high_tag}
+use Rattle.staged.specs.Moves.{Fitting}
+use Rattle.staged.proofs.Damaged.{tells-damaged}
 
 -- ---- any of a list of tests
 
-or-left : (a b : Bool) → a || b ≡ false → a ≡ false
-or-left true b e = e
-or-left false b e = refl
+or_left : (a b : Bool) → a || b ≡ false → a ≡ false
+or_left true b e = e
+or_left false b e = refl
 
-pub or-right : (a b : Bool) → a || b ≡ false → b ≡ false
-or-right true false e = refl
-or-right true true e = e
-or-right false b e = e
+pub or_right : (a b : Bool) → a || b ≡ false → b ≡ false
+or_right true false e = refl
+or_right true true e = e
+or_right false b e = e
 
 -- where none holds, the one at i does not
-none-at : (l : List Bool) (i : ℕ) → any l ≡ false → getD l i false ≡ false
+none-at : (l : List Bool) (i : ℕ) → any l ≡ false → get_or l i false ≡ false
 unfolding any
 none-at [] i e = refl
-none-at (b ∷ l) zero e = or-left b (any l) e
-none-at (b ∷ l) (suc i) e = none-at l i (or-right b (any l) e)
+none-at (b ∷ l) zero e = or_left b (any l) e
+none-at (b ∷ l) (suc i) e = none-at l i (or_right b (any l) e)
 
 -- one that does not hold is passed over
-any-past : (l : List Bool) (i : ℕ) → getD l i true ≡ false → any (drop i l) ≡ any (drop (suc i) l)
+any-past : (l : List Bool) (i : ℕ) → get_or l i true ≡ false → any (drop i l) ≡ any (drop (suc i) l)
 unfolding any
 any-past [] zero e = refl
 any-past [] (suc i) e = refl
@@ -51,71 +51,71 @@ any-past (b ∷ l) zero e = simp e
 any-past (b ∷ l) (suc i) e = any-past l i e
 
 -- one that holds decides
-any-at : (l : List Bool) (i : ℕ) → getD l i false ≡ true → any (drop i l) ≡ true
+any_at : (l : List Bool) (i : ℕ) → get_or l i false ≡ true → any (drop i l) ≡ true
 unfolding any
-any-at [] zero e = e
-any-at [] (suc i) e = e
-any-at (b ∷ l) zero e = simp e
-any-at (b ∷ l) (suc i) e = any-at l i e
+any_at [] zero e = e
+any_at [] (suc i) e = e
+any_at (b ∷ l) zero e = simp e
+any_at (b ∷ l) (suc i) e = any_at l i e
 
 -- ---- the damage test
 
 -- the tests before the one at i are passed: it goes by the others
 abbrev pub Past : ℕ → Turn → Type 0
-Past i t = damagedB t ≡ any (drop i (damageTests t))
+Past i t = damaged_b t ≡ any (drop i (damage_tests t))
 
 module _ (t : Turn) where
   -- none is passed yet
   pub past-none : Past 0 t
-  unfolding damagedB
+  unfolding damaged_b
   past-none = refl
 
   -- the one at i does not hold
-  pub past : (i : ℕ) → Past i t → getD (damageTests t) i true ≡ false → Past (i + 1) t
-  past i p e = rw add-one (p ∙ any-past (damageTests t) i e)
+  pub past : (i : ℕ) → Past i t → get_or (damage_tests t) i true ≡ false → Past (i + 1) t
+  past i p e = rw add-one (p ∙ any-past (damage_tests t) i e)
 
   -- it does
-  pub found : (i : ℕ) → Past i t → getD (damageTests t) i false ≡ true → true ≡ damagedB t
-  found i p e = sym (p ∙ any-at (damageTests t) i e)
+  pub found : (i : ℕ) → Past i t → get_or (damage_tests t) i false ≡ true → true ≡ damaged_b t
+  found i p e = sym (p ∙ any_at (damage_tests t) i e)
 
   -- past all others it goes by the last
-  pub last-test : Past 7 t → fullB (t .worker .operation) (t .worker .got) ≡ damagedB t
+  pub last-test : Past 7 t → full_b t.worker.operation t.worker.got ≡ damaged_b t
   unfolding any
-  last-test p = sym (p ∙ or-false (fullB (t .worker .operation) (t .worker .got)))
+  last-test p = sym (p ∙ or-false (full_b t.worker.operation t.worker.got))
 
 -- ---- where it does not hold
 
-module _ (t : Turn) (d : damagedB t ≡ false) where
+module _ (t : Turn) (d : damaged_b t ≡ false) where
   -- of its tests none does
-  pub passes : (i : ℕ) → getD (damageTests t) i false ≡ false
-  unfolding damagedB
-  passes i = none-at (damageTests t) i d
+  pub passes : (i : ℕ) → get_or (damage_tests t) i false ≡ false
+  unfolding damaged_b
+  passes i = none-at (damage_tests t) i d
 
   -- a rule pairs operation and stage
-  pub is-paired : pairedB (t .worker .operation) (t .worker .stage) ≡ true
+  pub is-paired : paired_b t.worker.operation t.worker.stage ≡ true
   is-paired = not-false _ (passes 0)
 
   -- a push's block is 1 to n and its bit is set
-  pub hand-listed : pushesB (t .worker .operation) ≡ true → Listed (t .lent) (t .worker .hand)
-  unfolding handBad
+  pub hand-listed : pushes_b t.worker.operation ≡ true → Listed t.lent t.worker.hand
+  unfolding hand_bad
   hand-listed p =
-      let within = blockB (t .lent .n) (t .worker .hand) in
-      let e : not (within && listedB (t .lent .bits) (t .worker .hand)) ≡ false = simp p at (passes 1) in
-      let b = block-facts (t .lent .n) (t .worker .hand) (and-left _ _ (not-false _ e)) in
-      record { low = b .0; high = b .1; bit = eqb-true _ _ (and-right within _ (not-false _ e)) }
+      let within = block_b t.lent.n t.worker.hand in
+      let e : not (within && listed_b t.lent.bits t.worker.hand) ≡ false = simp p at (passes 1) in
+      let b = block-facts t.lent.n t.worker.hand (and_left _ _ (not-false _ e)) in
+      record { low = b.0; high = b.1; bit = eqb-true _ _ (and_right within _ (not-false _ e)) }
 
   -- a wanted tag is at most 3
-  pub tag-small : eqb (t .worker .operation) setTag ≡ true → t .worker .tag ≤ maxTag
-  tag-small p = go (decLt 3 (t .worker .tag))
+  pub tag_small : eqb t.worker.operation set_tag ≡ true → t.worker.tag ≤ max_tag
+  tag_small p = go (dec_lt 3 t.worker.tag)
     where
-      go : Dec (3 < t .worker .tag) → t .worker .tag ≤ maxTag
-      go (yes l) = absurd (tells-not (tells-damaged t) d (highTag (eqb-true _ _ p) l))
+      go : Dec (3 < t.worker.tag) → t.worker.tag ≤ max_tag
+      go (yes l) = absurd (tells-not (tells-damaged t) d (high_tag (eqb-true _ _ p) l))
       go (no n) = omega arith
 
   -- what the new head rests on
-  pub fitting : Rules (t .lent) → Fitting (t .worker) (t .lent .bw)
-  fitting r = record { narrow = r .narrow; hand = λ p. omega (arith, hand-listed p .high); tag = tag-small }
+  pub fitting : Rules t.lent → Fitting t.worker t.lent.bw
+  fitting r = record { narrow = r.narrow; hand = λ p. omega (arith, (hand-listed p).high); tag = tag_small }
 
   -- at write there is a block in hand
-  pub writes : Rules (t .lent) → t .worker .stage ≡ writing → t .worker .hand ≤ maxBlocks
-  writes r e = fitting r .hand (writing-pushes (t .worker .operation) (ap (pairedB (t .worker .operation)) (sym e) ∙ is-paired))
+  pub writes : Rules t.lent → t.worker.stage ≡ writing → t.worker.hand ≤ max_blocks
+  writes r e = (fitting r).hand (writing-pushes t.worker.operation (ap (paired_b t.worker.operation) (sym e) ∙ is-paired))

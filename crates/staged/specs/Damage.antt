@@ -1,13 +1,10 @@
 -- What a move works on, and when that is damaged (document 01, Damaged, at a move).
-use Prim.Native.Nat.{ℕ}
-use mathlib.Core.Bool.{Bool, false, not, _&&_, _||_}
-use mathlib.Core.List.{List, [], _∷_}
-use lib.Dec.{ltb, eqb}
-use Rattle·words.specs.Tagged.{tagOf, addressOf}
-use Rattle·page.specs.Page.{Lent, blockB, listedB, goodB, soundB}
-use Rattle·operations.specs.declared.Worker.{Worker}
-use Rattle·operations.specs.Operations.{pushesB, onSharedB, wordOf, offB, fullB, setTag, askTag, readsHeadB, usesSeenB, pairedB}
-use Rattle·staged·specs.specs.Workers.{maxTag, maxSightings}
+use Rattle.std.specs.Prelude.{ℕ, Bool, false, not, ◌&&◌, ◌||◌, List, [], ◌∷◌, ltb, eqb}
+use Rattle.words.specs.Tagged.{tag_of, address_of}
+use Rattle.page.specs.Page.{Lent, block_b, listed_b, good_b, sound_b}
+use Rattle.operations.specs.declared.Worker.{Worker}
+use Rattle.operations.specs.Operations.{pushes_b, on_shared_b, word_of, off_b, full_b, set_tag, ask_tag, reads_head_b, uses_seen_b, paired_b}
+use Rattle.staged.specs.Workers.{max_tag, max_sightings}
 
 -- one worker's record, the two head words, the switch, and what is lent
 pub record Turn : Type 0 where
@@ -21,35 +18,35 @@ abbrev pub turn : Worker → ℕ → ℕ → Bool → Lent → Turn
 turn k shared tagged on l = record { worker = k; shared = shared; tagged = tagged; on = on; lent = l }
 
 -- the head word of the operation under way
-abbrev pub headWord : Turn → ℕ
-headWord t = wordOf (t .worker .operation) (t .shared) (t .tagged)
+abbrev pub head_word : Turn → ℕ
+head_word t = word_of t.worker.operation t.shared t.tagged
 
 -- a push whose hand holds no block, or one that is not listed
-unfoldable pub handBad : ℕ → List ℕ → Worker → Bool
-handBad n bits k = pushesB (k .operation) && not (blockB n (k .hand) && listedB bits (k .hand))
+unfoldable pub hand_bad : ℕ → List ℕ → Worker → Bool
+hand_bad n bits k = pushes_b k.operation && not (block_b n k.hand && listed_b bits k.hand)
 
 -- for S, a word with a nonzero tag
-unfoldable pub tagOnShared : ℕ → ℕ → Bool
-tagOnShared op word = onSharedB op && not (eqb (tagOf word) 0)
+unfoldable pub tag_on_shared : ℕ → ℕ → Bool
+tag_on_shared op word = on_shared_b op && not (eqb (tag_of word) 0)
 
 -- a write or an exchange by a word seen that leads to no block; on S, one with a tag as well
-unfoldable pub seenBad : ℕ → ℕ → Worker → Bool
-seenBad n bw k =
-    usesSeenB (k .stage)
-    && (not (eqb (addressOf (k .seen)) 0 || goodB n bw (addressOf (k .seen))) || tagOnShared (k .operation) (k .seen))
+unfoldable pub seen_bad : ℕ → ℕ → Worker → Bool
+seen_bad n bw k =
+    uses_seen_b k.stage
+    && (not (eqb (address_of k.seen) 0 || good_b n bw (address_of k.seen)) || tag_on_shared k.operation k.seen)
 
 -- a load, a swap or a masking of a head that is not sound; on S, of one with a tag as well
-unfoldable pub headBad : ℕ → ℕ → List ℕ → Worker → ℕ → Bool
-headBad n bw bits k word =
-    readsHeadB (k .stage) && (not (soundB n bw bits (addressOf word)) || tagOnShared (k .operation) word)
+unfoldable pub head_bad : ℕ → ℕ → List ℕ → Worker → ℕ → Bool
+head_bad n bw bits k word =
+    reads_head_b k.stage && (not (sound_b n bw bits (address_of word)) || tag_on_shared k.operation word)
 
 -- for 11, sightings above 4
-unfoldable pub sightingsBad : Worker → Bool
-sightingsBad k = eqb (k .operation) askTag && ltb maxSightings (k .sightings)
+unfoldable pub sightings_bad : Worker → Bool
+sightings_bad k = eqb k.operation ask_tag && ltb max_sightings k.sightings
 
 -- for 10, a wanted tag above 3
-unfoldable pub tagBad : Worker → Bool
-tagBad k = eqb (k .operation) setTag && ltb maxTag (k .tag)
+unfoldable pub tag_bad : Worker → Bool
+tag_bad k = eqb k.operation set_tag && ltb max_tag k.tag
 
 -- one of the tests holds
 unfoldable pub any : List Bool → Bool
@@ -58,13 +55,13 @@ any (b ∷ l) = b || any l
 
 -- the cases in the document's order; the first is a stage that its operation does not have, the fifth T off, the
 -- last got not empty
-abbrev pub damageTests : Turn → List Bool
-damageTests t =
-    let k = t .worker in
-    let l = t .lent in
-    not (pairedB (k .operation) (k .stage)) ∷ handBad (l .n) (l .bits) k ∷ seenBad (l .n) (l .bw) k ∷ headBad (l .n) (l .bw) (l .bits) k (headWord t)
-    ∷ offB (k .operation) (t .on) ∷ sightingsBad k ∷ tagBad k ∷ fullB (k .operation) (k .got) ∷ []
+abbrev pub damage_tests : Turn → List Bool
+damage_tests t =
+    let k = t.worker in
+    let l = t.lent in
+    not (paired_b k.operation k.stage) ∷ hand_bad l.n l.bits k ∷ seen_bad l.n l.bw k ∷ head_bad l.n l.bw l.bits k (head_word t)
+    ∷ off_b k.operation t.on ∷ sightings_bad k ∷ tag_bad k ∷ full_b k.operation k.got ∷ []
 
 -- any case
-unfoldable pub damagedB : Turn → Bool
-damagedB t = any (damageTests t)
+unfoldable pub damaged_b : Turn → Bool
+damaged_b t = any (damage_tests t)

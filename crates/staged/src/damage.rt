@@ -1,47 +1,33 @@
 // When a move finds its operation damaged: one test for each case, and all of them.
-ghost use mathlib.Core.Path.{_≡_};
-ghost use mathlib.Core.List.{List};
-ghost use Prim.Native.Nat.{ℕ};
-ghost use Rattle·page.specs.Page.{lent};
-ghost use Rattle·staged·specs.specs.Damage.{turn, handBad, tagBad, sightingsBad, tagOnShared, headBad, seenBad, damagedB};
-use crate::MAX_SIGHTINGS;
-use crate::MAX_TAG;
-use operations::ASK_TAG;
-use operations::EXCHANGING;
-use operations::LOADING;
-use operations::MASKING;
-use operations::SET_TAG;
-use operations::SWAPPING;
-use operations::WRITING;
-use operations::Worker;
-use operations::choice::is_either;
-use operations::choice::is_one_of;
-use operations::is_full;
-use operations::is_off;
-use operations::is_paired;
-use operations::on_shared;
-use operations::pushes;
-use operations::word_of;
-use words::masked_ptr_delay_get_delay;
-use words::masked_ptr_delay_get_ptr;
+ghost use Rattle.std.specs.Prelude.{◌≡◌, List, ℕ};
+ghost use Rattle.page.specs.Page.{lent};
+ghost use Rattle.staged.specs.Damage.{turn, hand_bad, tag_bad, sightings_bad, tag_on_shared, head_bad, seen_bad, damaged_b};
+
+use crate::{MAX_SIGHTINGS, MAX_TAG};
+use operations::choice::{is_either, is_one_of};
+use operations::{
+    ASK_TAG, EXCHANGING, LOADING, MASKING, SET_TAG, SWAPPING, WRITING, Worker, is_full, is_off,
+    is_paired, on_shared, pushes, word_of,
+};
+use words::{masked_ptr_delay_get_delay, masked_ptr_delay_get_ptr};
 
 // For 6 and 8, whether the block in hand is not 1 to n or its bit is clear.
 fn hand_bad(k: Worker, n: u64, bits: &[u64]) -> bool
-    ensures { λ r. ⌜ r ≡ handBad n (now (bits .entry)) k ⌝ }
+    ensures { result ≡ hand_bad n bits.now k }
 {
     pushes(k.operation) && (!page::is_block(n, k.hand) || !bitmap::is_set(bits, k.hand))
 }
 
 // For S, whether a word has a tag.
 fn tag_on_shared(operation: u64, word: u64) -> bool
-    ensures { λ r. ⌜ r ≡ tagOnShared operation word ⌝ }
+    ensures { result ≡ tag_on_shared operation word }
 {
     on_shared(operation) && masked_ptr_delay_get_delay(word) != 0
 }
 
 // At write or exchange, whether the word seen is neither 0 nor good; for S, whether it has a tag.
 fn seen_bad(k: Worker, n: u64, bw: u64) -> bool
-    ensures { λ r. ⌜ r ≡ seenBad n bw k ⌝ }
+    ensures { result ≡ seen_bad n bw k }
 {
     if !is_either(k.stage, WRITING, EXCHANGING) {
         return false;
@@ -58,7 +44,7 @@ fn seen_bad(k: Worker, n: u64, bw: u64) -> bool
 
 // At load, swap or masking, whether the head is not sound; for S, whether it has a tag.
 fn head_bad(k: Worker, n: u64, bw: u64, word: u64, bits: &[u64]) -> bool
-    ensures { λ r. ⌜ r ≡ headBad n bw (now (bits .entry)) k word ⌝ }
+    ensures { result ≡ head_bad n bw bits.now k word }
 {
     if !is_one_of(k.stage, LOADING, SWAPPING, MASKING) {
         return false;
@@ -71,14 +57,14 @@ fn head_bad(k: Worker, n: u64, bw: u64, word: u64, bits: &[u64]) -> bool
 
 // For 11, whether the sightings are above 4.
 fn sightings_bad(k: Worker) -> bool
-    ensures { λ r. ⌜ r ≡ sightingsBad k ⌝ }
+    ensures { result ≡ sightings_bad k }
 {
     k.operation == ASK_TAG && MAX_SIGHTINGS < k.sightings
 }
 
 // For 10, whether the wanted tag is above 3.
 fn tag_bad(k: Worker) -> bool
-    ensures { λ r. ⌜ r ≡ tagBad k ⌝ }
+    ensures { result ≡ tag_bad k }
 {
     k.operation == SET_TAG && MAX_TAG < k.tag
 }
@@ -93,7 +79,7 @@ pub fn is_damaged(
     on: bool,
     bits: &[u64],
 ) -> bool
-    ensures { λ r. ⌜ ((page : List ℕ) → r ≡ damagedB (turn k shared tagged on (lent n bw page (now (bits .entry))))) ⌝ }
+    ensures { (page : List ℕ) → result ≡ damaged_b (turn k shared tagged on (lent n bw page bits.now)) }
 {
     if !is_paired(k.operation, k.stage) {
         return true;

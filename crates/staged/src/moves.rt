@@ -1,25 +1,16 @@
 // One move of a worker. No public function has a requires.
-ghost use mathlib.Core.Path.{_≡_};
-ghost use Rattle·page.specs.Page.{lent};
-ghost use Rattle·staged·specs.specs.Damage.{turn};
-ghost use Rattle·staged·specs.specs.Moves.{moved, went, moveOf};
+ghost use Rattle.std.specs.Prelude.{◌≡◌};
+ghost use Rattle.page.specs.Page.{lent};
+ghost use Rattle.staged.specs.Damage.{turn};
+ghost use Rattle.staged.specs.Moves.{moved, went, move_of};
+
 use crate::damage::is_damaged;
-use crate::stages::exchange;
-use crate::stages::load;
-use crate::stages::mask;
-use crate::stages::swap;
-use crate::stages::write;
-use answers::BAD_PAGE;
-use answers::DAMAGED;
-use answers::IDLE;
-use operations::EXCHANGING;
-use operations::LOADING;
-use operations::SWAPPING;
-use operations::WRITING;
-use operations::Worker;
-use operations::is_busy;
+use crate::stages::{exchange, load, mask, swap, write};
+use answers::{BAD_PAGE, DAMAGED, IDLE};
+use operations::{EXCHANGING, LOADING, SWAPPING, WRITING, Worker, is_busy};
 
 // What a move gives back: its answer, the two head words and the worker's record.
+#[derive(Clone, Copy)]
 pub struct Moved {
     pub number: u64,
     pub value: u64,
@@ -30,7 +21,7 @@ pub struct Moved {
 
 // A refusal: heads and record stay.
 fn refuse(number: u64, shared: u64, tagged: u64, k: Worker) -> Moved
-    ensures { λ r. ⌜ r ≡ moved number 0 shared tagged k ⌝ }
+    ensures { result ≡ moved number 0 shared tagged k }
 {
     Moved {
         number,
@@ -53,7 +44,7 @@ pub fn make(
     page: &mut [u64],
     bits: &[u64],
 ) -> Moved
-    ensures { λ r. ⌜ went n bw on r (now (page .exit)) (now (bits .entry)) ≡ moveOf (turn k shared tagged on (lent n bw (now (page .entry)) (now (bits .entry)))) flag ⌝ }
+    ensures { went n bw on result page.new bits.now ≡ move_of (turn k shared tagged on (lent n bw page.old bits.now)) flag }
 {
     if !page::fits(n, bw, page.len(), bits.len()) {
         return refuse(BAD_PAGE, shared, tagged, k);

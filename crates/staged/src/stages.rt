@@ -1,41 +1,29 @@
 // One function for each stage of a move: what it makes of the record, the two head words and, at write, the page. What
 // some of them require, the page rules and the damage test give.
-ghost use mathlib.Core.Path.{_≡_};
-ghost use mathlib.Core.Bool.{Bool};
-ghost use mathlib.Core.List.{List};
-ghost use Prim.Native.Nat.{ℕ, _≤_};
-ghost use Rattle·answers.specs.Numbers.{done, underWay};
-ghost use Rattle·page.specs.Limits.{maxBlocks, maxWidth};
-ghost use Rattle·page.specs.Page.{Lent, lent};
-ghost use Rattle·staged·specs.specs.Workers.{holding, saw, atStage};
-ghost use Rattle·staged·specs.specs.Damage.{turn};
-ghost use Rattle·staged·specs.specs.Moves.{Fitting, moved, leaves, went, failsB, newWord, exchangeValue, loadAsk, loadAwait, loadAct, writeAct, exchangeAct, swapAct, maskAct};
+ghost use Rattle.std.specs.Prelude.{◌≡◌, Bool, List, ℕ, ◌≤◌};
+ghost use Rattle.answers.specs.Numbers.{done, under_way};
+ghost use Rattle.page.specs.Limits.{max_blocks, max_width};
+ghost use Rattle.page.specs.Page.{Lent, lent};
+ghost use Rattle.staged.specs.Workers.{holding, saw, at_stage};
+ghost use Rattle.staged.specs.Damage.{turn};
+ghost use Rattle.staged.specs.Moves.{Fitting, moved, leaves, went, fails_b, new_word, exchange_value, load_ask, load_await, load_act, write_act, exchange_act, swap_act, mask_act};
+
 use crate::MAX_SIGHTINGS;
 use crate::moves::Moved;
-use answers::DONE;
-use answers::UNDER_WAY;
-use operations::ASK_TAG;
-use operations::EXCHANGING;
-use operations::LOADING;
-use operations::SET_TAG;
-use operations::SWAPPING;
-use operations::TAKE_SHARED;
-use operations::WRITING;
-use operations::Worker;
+use answers::{DONE, UNDER_WAY};
 use operations::choice::only_if;
-use operations::on_shared;
-use operations::pushes;
-use operations::word_of;
-use words::FREEING;
-use words::NO_DELAYED_FREE;
-use words::masked_ptr_delay_get_delay;
-use words::masked_ptr_delay_get_ptr;
-use words::masked_ptr_delay_set_delay;
-use words::masked_ptr_delay_set_ptr;
+use operations::{
+    ASK_TAG, EXCHANGING, LOADING, SET_TAG, SWAPPING, TAKE_SHARED, WRITING, Worker, on_shared,
+    pushes, word_of,
+};
+use words::{
+    FREEING, NO_DELAYED_FREE, masked_ptr_delay_get_delay, masked_ptr_delay_get_ptr,
+    masked_ptr_delay_set_delay, masked_ptr_delay_set_ptr,
+};
 
 // Under way with another record.
 fn goes_on(shared: u64, tagged: u64, k: Worker) -> Moved
-    ensures { λ r. ⌜ r ≡ moved underWay 0 shared tagged k ⌝ }
+    ensures { result ≡ moved under_way 0 shared tagged k }
 {
     Moved {
         number: UNDER_WAY,
@@ -48,7 +36,7 @@ fn goes_on(shared: u64, tagged: u64, k: Worker) -> Moved
 
 // Ended with a value: got becomes a list, own stays, and every other field is 0.
 fn ends(value: u64, shared: u64, tagged: u64, k: Worker, got: u64) -> Moved
-    ensures { λ r. ⌜ r ≡ moved done value shared tagged (holding k got) ⌝ }
+    ensures { result ≡ moved done value shared tagged (holding k got) }
 {
     let worker = Worker {
         own: k.own,
@@ -71,7 +59,7 @@ fn ends(value: u64, shared: u64, tagged: u64, k: Worker, got: u64) -> Moved
 
 // The next move is another stage; nothing else changes.
 fn turns_to(to: u64, shared: u64, tagged: u64, k: Worker) -> Moved
-    ensures { λ r. ⌜ r ≡ moved underWay 0 shared tagged (atStage k to) ⌝ }
+    ensures { result ≡ moved under_way 0 shared tagged (at_stage k to) }
 {
     let mut next = k;
     next.stage = to;
@@ -80,7 +68,7 @@ fn turns_to(to: u64, shared: u64, tagged: u64, k: Worker) -> Moved
 
 // The word is stored as the word seen, and the next move is another stage.
 fn sees(word: u64, stage: u64, shared: u64, tagged: u64, k: Worker) -> Moved
-    ensures { λ r. ⌜ r ≡ moved underWay 0 shared tagged (saw k word stage) ⌝ }
+    ensures { result ≡ moved under_way 0 shared tagged (saw k word stage) }
 {
     let mut next = k;
     next.stage = stage;
@@ -91,7 +79,7 @@ fn sees(word: u64, stage: u64, shared: u64, tagged: u64, k: Worker) -> Moved
 // A load of 11: at tag 1 a sighting, which ends it if it is the fifth; at tag 2 the next move exchanges; any other
 // tag ends it.
 fn load_ask(word: u64, shared: u64, tagged: u64, k: Worker) -> Moved
-    ensures { λ r. ⌜ ((on : Bool) (l : Lent) → leaves r on l ≡ loadAsk (turn k shared tagged on l) word) ⌝ }
+    ensures { (on : Bool) (l : Lent) → leaves result on l ≡ load_ask (turn k shared tagged on l) word }
 {
     let tag = masked_ptr_delay_get_delay(word);
     if tag == FREEING {
@@ -112,7 +100,7 @@ fn load_ask(word: u64, shared: u64, tagged: u64, k: Worker) -> Moved
 
 // A load of 12: tag 1 loads again, any other tag is the value.
 fn load_await(word: u64, shared: u64, tagged: u64, k: Worker) -> Moved
-    ensures { λ r. ⌜ ((on : Bool) (l : Lent) → leaves r on l ≡ loadAwait (turn k shared tagged on l) word) ⌝ }
+    ensures { (on : Bool) (l : Lent) → leaves result on l ≡ load_await (turn k shared tagged on l) word }
 {
     let tag = masked_ptr_delay_get_delay(word);
     if tag == FREEING {
@@ -123,7 +111,7 @@ fn load_await(word: u64, shared: u64, tagged: u64, k: Worker) -> Moved
 
 // Loads the head word. It is stored as the word seen unless it ends the operation.
 pub fn load(shared: u64, tagged: u64, k: Worker) -> Moved
-    ensures { λ r. ⌜ ((on : Bool) (l : Lent) → leaves r on l ≡ loadAct (turn k shared tagged on l)) ⌝ }
+    ensures { (on : Bool) (l : Lent) → leaves result on l ≡ load_act (turn k shared tagged on l) }
 {
     let operation = k.operation;
     let word = word_of(operation, shared, tagged);
@@ -147,8 +135,8 @@ pub fn load(shared: u64, tagged: u64, k: Worker) -> Moved
 
 // Writes the link of the block in hand: the address part of the word seen.
 pub fn write(bw: u64, shared: u64, tagged: u64, k: Worker, page: &mut [u64]) -> Moved
-    requires { ⌜ (bw ≤ maxWidth) × (k .hand ≤ maxBlocks) ⌝ }
-    ensures { λ r. ⌜ ((n : ℕ) (on : Bool) (bits : List ℕ) → went n bw on r (now (page .exit)) bits ≡ writeAct (turn k shared tagged on (lent n bw (now (page .entry)) bits))) ⌝ }
+    requires { (bw ≤ max_width) × (k.hand ≤ max_blocks) }
+    ensures { (n : ℕ) (on : Bool) (bits : List ℕ) → went n bw on result page.new bits ≡ write_act (turn k shared tagged on (lent n bw page.old bits)) }
 {
     let link = masked_ptr_delay_get_ptr(k.seen);
     page::set_link(page, page::address(bw, k.hand), link);
@@ -157,15 +145,15 @@ pub fn write(bw: u64, shared: u64, tagged: u64, k: Worker, page: &mut [u64]) -> 
 
 // Whether an exchange fails: the flag is set, or the head differs from the word seen.
 fn fails(head: u64, seen: u64, flag: bool) -> bool
-    ensures { λ r. ⌜ r ≡ failsB head seen flag ⌝ }
+    ensures { result ≡ fails_b head seen flag }
 {
     flag || head != seen
 }
 
 // The new head: a push's block with the tag seen, or the address seen with the tag wanted.
 fn new_word(k: Worker, bw: u64) -> u64
-    requires { ⌜ Fitting k bw ⌝ }
-    ensures { λ r. ⌜ r ≡ newWord k bw ⌝ }
+    requires { Fitting k bw }
+    ensures { result ≡ new_word k bw }
 {
     if pushes(k.operation) {
         return masked_ptr_delay_set_ptr(k.seen, page::address(bw, k.hand)).value;
@@ -175,7 +163,7 @@ fn new_word(k: Worker, bw: u64) -> u64
 
 // The value of an exchange: 1 for 11, else the tag before.
 fn exchange_value(k: Worker) -> u64
-    ensures { λ r. ⌜ r ≡ exchangeValue k ⌝ }
+    ensures { result ≡ exchange_value k }
 {
     if k.operation == ASK_TAG {
         return 1;
@@ -185,8 +173,8 @@ fn exchange_value(k: Worker) -> u64
 
 // Exchanges the head. Where that fails, only the stage changes: the next move loads again.
 pub fn exchange(bw: u64, shared: u64, tagged: u64, k: Worker, flag: bool) -> Moved
-    requires { ⌜ Fitting k bw ⌝ }
-    ensures { λ r. ⌜ ((n : ℕ) (on : Bool) (page bits : List ℕ) → went n bw on r page bits ≡ exchangeAct (turn k shared tagged on (lent n bw page bits)) flag) ⌝ }
+    requires { Fitting k bw }
+    ensures { (n : ℕ) (on : Bool) (page bits : List ℕ) → went n bw on result page bits ≡ exchange_act (turn k shared tagged on (lent n bw page bits)) flag }
 {
     if fails(word_of(k.operation, shared, tagged), k.seen, flag) {
         return turns_to(LOADING, shared, tagged, k);
@@ -201,16 +189,16 @@ pub fn exchange(bw: u64, shared: u64, tagged: u64, k: Worker, flag: bool) -> Mov
 
 // Takes S: got becomes what was there, and S 0.
 pub fn swap(bw: u64, shared: u64, tagged: u64, k: Worker) -> Moved
-    requires { ⌜ (1 ≤ bw) × (bw ≤ maxWidth) ⌝ }
-    ensures { λ r. ⌜ ((n : ℕ) (on : Bool) (page bits : List ℕ) → went n bw on r page bits ≡ swapAct (turn k shared tagged on (lent n bw page bits))) ⌝ }
+    requires { (1 ≤ bw) × (bw ≤ max_width) }
+    ensures { (n : ℕ) (on : Bool) (page bits : List ℕ) → went n bw on result page bits ≡ swap_act (turn k shared tagged on (lent n bw page bits)) }
 {
     ends(page::block(bw, shared), 0, tagged, k, shared)
 }
 
 // Takes T: got becomes the address part, and T keeps only its tag.
 pub fn mask(bw: u64, shared: u64, tagged: u64, k: Worker) -> Moved
-    requires { ⌜ (1 ≤ bw) × (bw ≤ maxWidth) ⌝ }
-    ensures { λ r. ⌜ ((n : ℕ) (on : Bool) (page bits : List ℕ) → went n bw on r page bits ≡ maskAct (turn k shared tagged on (lent n bw page bits))) ⌝ }
+    requires { (1 ≤ bw) × (bw ≤ max_width) }
+    ensures { (n : ℕ) (on : Bool) (page bits : List ℕ) → went n bw on result page bits ≡ mask_act (turn k shared tagged on (lent n bw page bits)) }
 {
     let address = masked_ptr_delay_get_ptr(tagged);
     let tag = masked_ptr_delay_get_delay(tagged);

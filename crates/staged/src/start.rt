@@ -1,28 +1,17 @@
 // The start of requests 6 to 12: refused with 2, 4, 5, 7, 8 or 9, or answered 1 with the record set afresh. No public
 // function has a requires.
-ghost use mathlib.Core.Path.{_≡_};
-ghost use Rattle·answers.specs.Numbers.{underWay};
-ghost use Rattle·staged·specs.specs.Workers.{begun};
-ghost use Rattle·staged·specs.specs.Start.{starter, begins, started, startFitsB, startOf};
+ghost use Rattle.std.specs.Prelude.{◌≡◌};
+ghost use Rattle.answers.specs.Numbers.{under_way};
+ghost use Rattle.staged.specs.Workers.{begun};
+ghost use Rattle.staged.specs.Start.{starter, begins, started, start_fits_b, start_of};
+
 use crate::MAX_TAG;
-use answers::BAD_PAGE;
-use answers::BUSY;
-use answers::LISTED;
-use answers::NO_SUCH;
-use answers::NOT_EMPTY;
-use answers::SWITCHED;
-use answers::UNDER_WAY;
-use operations::SET_TAG;
-use operations::Worker;
+use answers::{BAD_PAGE, BUSY, LISTED, NO_SUCH, NOT_EMPTY, SWITCHED, UNDER_WAY};
 use operations::choice::only_if;
-use operations::first_stage;
-use operations::is_busy;
-use operations::is_full;
-use operations::is_off;
-use operations::is_staged;
-use operations::pushes;
+use operations::{SET_TAG, Worker, first_stage, is_busy, is_full, is_off, is_staged, pushes};
 
 // What a start gives back.
+#[derive(Clone, Copy)]
 pub struct Begun {
     pub number: u64,
     pub value: u64,
@@ -31,7 +20,7 @@ pub struct Begun {
 
 // Whether there is such an operation, and it has the block or the tag that it asks for.
 pub fn start_fits(n: u64, operation: u64, a: u64) -> bool
-    ensures { λ r. ⌜ r ≡ startFitsB n operation a ⌝ }
+    ensures { result ≡ start_fits_b n operation a }
 {
     if pushes(operation) {
         return page::is_block(n, a);
@@ -44,7 +33,7 @@ pub fn start_fits(n: u64, operation: u64, a: u64) -> bool
 
 // A refusal: the record stays.
 fn refuse(k: Worker, number: u64) -> Begun
-    ensures { λ r. ⌜ r ≡ begins number k ⌝ }
+    ensures { result ≡ begins number k }
 {
     Begun {
         number,
@@ -55,7 +44,7 @@ fn refuse(k: Worker, number: u64) -> Begun
 
 // The operation is under way: own and got stay, every other field is set afresh.
 fn begin(k: Worker, operation: u64, a: u64) -> Begun
-    ensures { λ r. ⌜ r ≡ begins underWay (begun k operation a) ⌝ }
+    ensures { result ≡ begins under_way (begun k operation a) }
 {
     let worker = Worker {
         own: k.own,
@@ -85,7 +74,7 @@ pub fn start(
     operation: u64,
     a: u64,
 ) -> Begun
-    ensures { λ r. ⌜ started r (now (bits .exit)) ≡ startOf n bw «page_words» on (starter k (now (bits .entry))) operation a ⌝ }
+    ensures { started result bits.new ≡ start_of n bw page_words on (starter k bits.old) operation a }
 {
     if !page::fits(n, bw, page_words, bits.len()) {
         return refuse(k, BAD_PAGE);

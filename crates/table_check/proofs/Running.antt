@@ -1,48 +1,48 @@
 -- Decoding, a fresh start and a run, one after the other. Assumes nothing.
-use Prim.Native.Nat.{ℕ, _*_, _≤_, _<_}
-use mathlib.Core.Path.{_≡_, sym, ap, _∙_, subst}
+use Prim.Native.Nat.{ℕ, ◌*◌, ◌≤◌, ◌<◌}
+use mathlib.Core.Path.{◌≡◌, sym, ap, ◌∙◌, subst}
 use mathlib.Core.List.{List}
 use native.Mathlib.Omega.{arith}
-use lib.ListN.{length, take, getD, replicate, length-take}
-use lib.Seq.{getD-take, length-take-le, ext-getD}
-use Rattle·answers.specs.Rows.{Outcome}
-use Rattle·records.specs.declared.Filled.{Filled}
-use Rattle·records.specs.Fill.{fillOf}
-use Rattle·records.specs.Fill as fill
-use Rattle·records.specs.Filled.{FillHolds}
-use Rattle·records.proofs.Filling.{fill-holds}
-use Rattle·machine.specs.declared.Reply.{Reply}
-use Rattle·machine.specs.Config.{Config, came, freshOf}
-use Rattle·machine.specs.Events.{eventWords, Run, ran, eventsOf}
-use Rattle·table_check·specs.specs.Runs.{fromFresh, runOf}
+use lib.ListN.{length, take, get_or, replicate, length-take}
+use lib.Seq.{get_or-take, length-take-le, ext_get_or}
+use Rattle.answers.specs.Rows.{Outcome}
+use Rattle.records.specs.declared.Filled.{Filled}
+use Rattle.records.specs.Fill.{fill_of}
+use Rattle.records.specs.Fill as fill
+use Rattle.records.specs.Filled.{FillHolds}
+use Rattle.records.proofs.Filling.{fill_holds}
+use Rattle.machine.specs.declared.Reply.{Reply}
+use Rattle.machine.specs.Config.{Config, came, fresh_of}
+use Rattle.machine.specs.Events.{event_words, Run, ran, events_of}
+use Rattle.table_check.specs.Runs.{from_fresh, run_of}
 
 -- the words of the records are within the room
-pub filled-room : (bytes events : List ℕ) {r : Filled} {words : List ℕ} → fill.came r words ≡ fillOf bytes events → eventWords * r .records ≤ length words
+pub filled-room : (bytes events : List ℕ) {r : Filled} {words : List ℕ} → fill.came r words ≡ fill_of bytes events → event_words * r.records ≤ length words
 filled-room bytes events {r} {words} e =
-    let h : FillHolds bytes events (fill.came r words) = subst (FillHolds bytes events) (sym e) (fill-holds bytes events) in
-    omega (arith, h .room, h .size)
+    let h : FillHolds bytes events (fill.came r words) = subst (FillHolds bytes events) (sym e) (fill_holds bytes events) in
+    omega (arith, h.room, h.size)
 
-pub run-is : (bytes page bits answers : List ℕ) {r : Filled} {words : List ℕ} → fill.came r words ≡ fillOf bytes (replicate 160 0)
-    → {s : Reply} {zeros : List ℕ} → came s page zeros ≡ freshOf 63 4 8 page bits
-    → {o : Outcome Run} → o ≡ eventsOf (ran (came s page zeros .after) answers) (take (eventWords * r .records) words)
-    → o ≡ runOf bytes page bits answers
-unfolding runOf
-run-is bytes page bits answers {r} {words} e f g =
+pub run_is : (bytes page bits answers : List ℕ) {r : Filled} {words : List ℕ} → fill.came r words ≡ fill_of bytes (replicate 160 0)
+    → {s : Reply} {zeros : List ℕ} → came s page zeros ≡ fresh_of 63 4 8 page bits
+    → {o : Outcome Run} → o ≡ events_of (ran (came s page zeros).after answers) (take (event_words * r.records) words)
+    → o ≡ run_of bytes page bits answers
+unfolding run_of
+run_is bytes page bits answers {r} {words} e f g =
     g
-    ∙ ap (λ (c : Outcome Config). eventsOf (ran (c .after) answers) (take (eventWords * r .records) words)) f
-    ∙ ap (fromFresh page bits answers) e
+    ∙ ap (λ (c : Outcome Config). events_of (ran c.after answers) (take (event_words * r.records) words)) f
+    ∙ ap (from_fresh page bits answers) e
 
 -- words that agree with the others as far as these go begin with them
-pub begins-so : (words expected : List ℕ) → length expected ≤ length words → ((i : ℕ) → i < length expected → getD words i 0 ≡ getD expected i 0)
+pub begins-so : (words expected : List ℕ) → length expected ≤ length words → ((i : ℕ) → i < length expected → get_or words i 0 ≡ get_or expected i 0)
     → take (length expected) words ≡ expected
 begins-so words expected h same =
     let l = length-take-le (length expected) words h in
-    ext-getD 0 (take (length expected) words) expected l (λ i m. getD-take (length expected) words i 0 (omega arith) ∙ same i (omega arith))
+    ext_get_or 0 (take (length expected) words) expected l (λ i m. get_or-take (length expected) words i 0 (omega arith) ∙ same i (omega arith))
 
 -- words that are too few do not begin with the others
-pub too-few : (words expected : List ℕ) → length words < length expected → take (length expected) words ≡ expected → ⊥
-too-few words expected h e = omega (arith, length-take (length expected) words, ap length e)
+pub too_few : (words expected : List ℕ) → length words < length expected → take (length expected) words ≡ expected → ⊥
+too_few words expected h e = omega (arith, length-take (length expected) words, ap length e)
 
 -- where they begin with the others, each one is the other's
-pub differs : (words expected : List ℕ) (i : ℕ) → i < length expected → take (length expected) words ≡ expected → getD words i 0 ≡ getD expected i 0
-differs words expected i h e = sym (getD-take (length expected) words i 0 h) ∙ ap (λ (l : List ℕ). getD l i 0) e
+pub differs : (words expected : List ℕ) (i : ℕ) → i < length expected → take (length expected) words ≡ expected → get_or words i 0 ≡ get_or expected i 0
+differs words expected i h e = sym (get_or-take (length expected) words i 0 h) ∙ ap (λ (l : List ℕ). get_or l i 0) e

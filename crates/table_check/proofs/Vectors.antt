@@ -1,31 +1,31 @@
 -- The runs of document 01's table and what they come to, computed on the definitions (n = 63, bw = 4, W = 8). Assumes
 -- nothing.
 use Prim.Native.Nat.{ℕ}
-use mathlib.Core.Path.{_≡_, refl}
-use mathlib.Core.List.{List, [], _∷_, _++_}
-use lib.ListN.{getD}
-use Rattle·answers.specs.Rows.{all, first}
-use Rattle·words.specs.Digits.{digit, putDigit}
-use Rattle·bitmap.specs.Bitmap.{bitAt, bitPut, anyFrom, putRun}
-use Rattle·page.specs.Page.{fitsB, workersB, blockB, runB, goodB, soundB}
-use Rattle·page.specs.Walk.{walkFrom, lastOf}
-use Rattle·page.specs.Sequences.{upFrom}
-use Rattle·lists.specs.Own.{insertAct, popAct, appendAct, extendAct, releaseAct, emptyAct}
-use Rattle·operations.specs.Operations.{stagedB, pushesB, takesB, onSharedB, onTaggedB, wordOf, offB, fullB, firstStage, stagesOf, oneOf}
-use Rattle·staged.specs.Workers.{begun}
-use Rattle·staged.specs.Start.{startFitsB, startAct}
-use Rattle·staged.specs.Damage.{handBad, tagOnShared, seenBad, headBad, sightingsBad, tagBad, any, damagedB}
-use Rattle·staged.specs.Moves.{loadAsk, loadAwait, loadAct, writeAct, newWord, exchangeValue, failsB, exchangeAct, swapAct, maskAct, moveAct}
-use Rattle·machine.specs.Config.{rulesB, freshOf}
-use Rattle·machine.specs.Table.{argumentsFitB, anyNamed, ownUnsound, linkUnsound, walkBroken, requestDamagedB, requestRows, moveRows, anyBusy, onRows, offRows}
-use Rattle·machine.specs.Requests.{atOnceAct, requestAct, requestOf}
-use Rattle·machine.specs.Moves.{moveOf}
-use Rattle·machine.specs.Switch.{switchOnOf, switchOffOf}
-use Rattle·machine.specs.Events.{eventOf, eventsRefusal, eventsOf}
-use Rattle·machine.specs.Events as events
-use Rattle·records.specs.Records.{isMark, kindOf, decodeAt}
-use Rattle·records.specs.Fill.{next, fillIn}
-use Rattle·table_check·specs.specs.Runs.{runOf, zerosRun, Answers}
+use mathlib.Core.Path.{◌≡◌, refl}
+use mathlib.Core.List.{List, [], ◌∷◌, ◌++◌}
+use lib.ListN.{get_or}
+use Rattle.answers.specs.Rows.{all, first}
+use Rattle.words.specs.Digits.{digit, put_digit}
+use Rattle.bitmap.specs.Bitmap.{bit_at, bit_put, any_from, put_run}
+use Rattle.page.specs.Page.{fits_b, workers_b, block_b, run_b, good_b, sound_b}
+use Rattle.page.specs.Walk.{walk_from, last_of}
+use Rattle.page.specs.Sequences.{up_from}
+use Rattle.lists.specs.Own.{insert_act, pop_act, append_act, extend_act, release_act, empty_act}
+use Rattle.operations.specs.Operations.{staged_b, pushes_b, takes_b, on_shared_b, on_tagged_b, word_of, off_b, full_b, first_stage, stages_of, one_of}
+use Rattle.staged.specs.Workers.{begun}
+use Rattle.staged.specs.Start.{start_fits_b, start_act}
+use Rattle.staged.specs.Damage.{hand_bad, tag_on_shared, seen_bad, head_bad, sightings_bad, tag_bad, any, damaged_b}
+use Rattle.staged.specs.Moves.{load_ask, load_await, load_act, write_act, new_word, exchange_value, fails_b, exchange_act, swap_act, mask_act, move_act}
+use Rattle.machine.specs.Config.{rules_b, fresh_of}
+use Rattle.machine.specs.Table.{arguments_fit_b, any_named, own_unsound, link_unsound, walk_broken, request_damaged_b, request_rows, move_rows, any_busy, on_rows, off_rows}
+use Rattle.machine.specs.Requests.{at_once_act, request_act, request_of}
+use Rattle.machine.specs.Moves.{move_of}
+use Rattle.machine.specs.Switch.{switch_on_of, switch_off_of}
+use Rattle.machine.specs.Events.{event_of, events_refusal, events_of}
+use Rattle.machine.specs.Events as events
+use Rattle.records.specs.Records.{is_mark, kind_of, decode_at}
+use Rattle.records.specs.Fill.{next, fill_in}
+use Rattle.table_check.specs.Runs.{run_of, zeros_run, Answers}
 
 -- the records of a request, a move and on
 abbrev asks : ℕ → ℕ → ℕ → ℕ → List ℕ
@@ -100,16 +100,16 @@ pub record Vectors : Type 0 where
       ∷ 0 ∷ 9 ∷ 0 ∷ 2 ∷ 0 ∷ 9 ∷ 0 ∷ 8 ∷ 0 ∷ 6 ∷ 0 ∷ 5 ∷ [])
   pub p5-answers : Answers p5 (0 ∷ 0 ∷ 0 ∷ 0 ∷ 0 ∷ 7 ∷ [])
   pub p6-answers : Answers p6 (0 ∷ 0 ∷ 0 ∷ 3 ∷ 0 ∷ 3 ∷ 0 ∷ 4 ∷ 0 ∷ 5 ∷ 0 ∷ 7 ∷ [])
-  pub p6-link-3 : getD (zerosRun p6 .after .config .page) 12 0 ≡ 128
-  pub p6-link-4 : getD (zerosRun p6 .after .config .page) 16 0 ≡ 160
-  pub p6-link-5 : getD (zerosRun p6 .after .config .page) 20 0 ≡ 224
+  pub p6-link-3 : get_or (zeros_run p6).after.config.page 12 0 ≡ 128
+  pub p6-link-4 : get_or (zeros_run p6).after.config.page 16 0 ≡ 160
+  pub p6-link-5 : get_or (zeros_run p6).after.config.page 20 0 ≡ 224
   pub p7-answers : Answers p7 (0 ∷ 0 ∷ 4 ∷ 0 ∷ [])
   pub p8-answers : Answers p8 (4 ∷ 0 ∷ 0 ∷ 2 ∷ [])
-  pub p9-99 : zerosRun p9-before .after .config .state .tagged ≡ 99
+  pub p9-99 : (zeros_run p9-before).after.config.state.tagged ≡ 99
   pub p9-answers : Answers p9 (0 ∷ 0 ∷ 1 ∷ 0 ∷ 1 ∷ 0 ∷ 0 ∷ 0 ∷ 1 ∷ 0 ∷ 1 ∷ 0 ∷ 1 ∷ 0 ∷ 0 ∷ 3 ∷ 1 ∷ 0 ∷ 0 ∷ 3 ∷ [])
-  pub p9-3 : zerosRun p9 .after .config .state .tagged ≡ 3
+  pub p9-3 : (zeros_run p9).after.config.state.tagged ≡ 3
   pub p10-answers : Answers p10 (0 ∷ 0 ∷ 1 ∷ 0 ∷ 1 ∷ 0 ∷ 0 ∷ 0 ∷ 1 ∷ 0 ∷ 1 ∷ 0 ∷ 0 ∷ 1 ∷ [])
-  pub p10-0 : zerosRun p10 .after .config .state .tagged ≡ 0
+  pub p10-0 : (zeros_run p10).after.config.state.tagged ≡ 0
   pub p11-answers : Answers p11 (0 ∷ 0 ∷ 1 ∷ 0 ∷ 1 ∷ 0 ∷ 0 ∷ 0 ∷ 1 ∷ 0 ∷ 1 ∷ 0 ∷ 1 ∷ 0 ∷ 1 ∷ 0 ∷ 1 ∷ 0 ∷ 0 ∷ 0 ∷ [])
   pub p12-answers : Answers p12 (1 ∷ 0 ∷ 9 ∷ 0 ∷ [])
   pub whole-case-answers : Answers whole-case
@@ -117,7 +117,7 @@ pub record Vectors : Type 0 where
       ∷ 0 ∷ 9 ∷ 0 ∷ 1 ∷ 0 ∷ 9 ∷ [])
 
 pub vectors : Vectors
-unfolding all first digit putDigit bitAt bitPut anyFrom putRun fitsB workersB blockB runB goodB soundB walkFrom lastOf upFrom insertAct popAct appendAct extendAct releaseAct emptyAct stagedB pushesB takesB onSharedB onTaggedB wordOf offB fullB firstStage stagesOf oneOf begun startFitsB startAct handBad tagOnShared seenBad headBad sightingsBad tagBad any damagedB loadAsk loadAwait loadAct writeAct newWord exchangeValue failsB exchangeAct swapAct maskAct moveAct rulesB argumentsFitB anyNamed ownUnsound linkUnsound walkBroken requestDamagedB requestRows moveRows anyBusy onRows offRows atOnceAct requestAct requestOf moveOf switchOnOf switchOffOf freshOf isMark kindOf decodeAt next fillIn eventOf events.runOf eventsRefusal eventsOf runOf zerosRun
+unfolding all first digit put_digit bit_at bit_put any_from put_run fits_b workers_b block_b run_b good_b sound_b walk_from last_of up_from insert_act pop_act append_act extend_act release_act empty_act staged_b pushes_b takes_b on_shared_b on_tagged_b word_of off_b full_b first_stage stages_of one_of begun start_fits_b start_act hand_bad tag_on_shared seen_bad head_bad sightings_bad tag_bad any damaged_b load_ask load_await load_act write_act new_word exchange_value fails_b exchange_act swap_act mask_act move_act rules_b arguments_fit_b any_named own_unsound link_unsound walk_broken request_damaged_b request_rows move_rows any_busy on_rows off_rows at_once_act request_act request_of move_of switch_on_of switch_off_of fresh_of is_mark kind_of decode_at next fill_in event_of events.run_of events_refusal events_of run_of zeros_run
 vectors =
     record {
       p4-answers = record { count = refl; each = refl };

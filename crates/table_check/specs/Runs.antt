@@ -1,26 +1,23 @@
 -- A run of records on a fresh page of 63 blocks of 4 words, with eight workers (document 01, Checked by hand).
-use Prim.Native.Nat.{ℕ, _*_}
-use mathlib.Core.Path.{_≡_}
-use mathlib.Core.List.{List}
-use lib.ListN.{length, take, replicate}
-use Rattle·answers.specs.Rows.{Outcome}
-use Rattle·records.specs.Fill.{Filling, fillOf}
-use Rattle·machine.specs.Config.{freshOf}
-use Rattle·machine.specs.Events.{eventWords, answerWords, Run, ran, eventsOf}
+use Rattle.std.specs.Prelude.{ℕ, ◌*◌, ◌≡◌, List, length, take, replicate}
+use Rattle.answers.specs.Rows.{Outcome}
+use Rattle.records.specs.Fill.{Filling, fill_of}
+use Rattle.machine.specs.Config.{fresh_of}
+use Rattle.machine.specs.Events.{event_words, answer_words, Run, ran, events_of}
 
 -- the events of so many records, run from the start
-abbrev pub fromFresh : List ℕ → List ℕ → List ℕ → Filling → Outcome Run
-fromFresh page bits answers f = eventsOf (ran (freshOf 63 4 8 page bits .after) answers) (take (eventWords * f .records) (f .words))
+abbrev pub from_fresh : List ℕ → List ℕ → List ℕ → Filling → Outcome Run
+from_fresh page bits answers f = events_of (ran (fresh_of 63 4 8 page bits).after answers) (take (event_words * f.records) f.words)
 
 -- room for 32 records
-unfoldable pub runOf : List ℕ → List ℕ → List ℕ → List ℕ → Outcome Run
-runOf run page bits answers = fromFresh page bits answers (fillOf run (replicate 160 0))
+unfoldable pub run_of : List ℕ → List ℕ → List ℕ → List ℕ → Outcome Run
+run_of run page bits answers = from_fresh page bits answers (fill_of run (replicate 160 0))
 
 -- the same over zeros
-unfoldable pub zerosRun : List ℕ → Outcome Run
-zerosRun run = runOf run (replicate 256 0) (replicate 1 0) (replicate 64 0)
+unfoldable pub zeros_run : List ℕ → Outcome Run
+zeros_run run = run_of run (replicate 256 0) (replicate 1 0) (replicate 64 0)
 
 -- these are its answers, two words each, and no more
 pub record Answers (run expected : List ℕ) : Type 0 where
-  pub count : answerWords * zerosRun run .value ≡ length expected
-  pub each : take (length expected) (zerosRun run .after .answers) ≡ expected
+  pub count : answer_words * (zeros_run run).value ≡ length expected
+  pub each : take (length expected) (zeros_run run).after.answers ≡ expected

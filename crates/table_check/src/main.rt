@@ -1,11 +1,11 @@
 // Document 01's table, P1 to P12, and its whole case, run through the compiled library and proved. A record is a mark
 // (SU a request, MV a move, EN on), worker, code, a and b; an expected answer is a number and a value.
+#![tactic(auto)]
+
 mod runs;
 
 use check::expect;
-use runs::answers;
-use runs::tagged;
-use runs::word;
+use runs::{answers, tagged, word};
 
 fn main() {
     p1();

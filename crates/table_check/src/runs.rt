@@ -1,11 +1,8 @@
 // Runs of records on a fresh page, and what can be asked of them.
-ghost use mathlib.Core.Path.{_≡_};
-ghost use mathlib.Core.Logic.{_↔_};
-ghost use mathlib.Core.Bool.{true};
-ghost use Prim.Native.Nat.{_<_};
-ghost use lib.ListN.{length, getD, take};
-ghost use Rattle·machine.specs.Events.{cameRun};
-ghost use Rattle·table_check·specs.specs.Runs.{runOf, zerosRun, Answers};
+ghost use Rattle.std.specs.Prelude.{◌≡◌, ◌↔◌, true, ◌<◌, length, get_or, take};
+ghost use Rattle.machine.specs.Events.{came_run};
+ghost use Rattle.table_check.specs.Runs.{run_of, zeros_run, Answers};
+
 use events::EVENT_WORDS;
 use machine::Reply;
 
@@ -27,7 +24,7 @@ const ANSWERS: usize = 64;
 
 // Runs the records from a fresh start.
 fn run(records: &[u8], page: &mut [u64], bits: &mut [u64], answers: &mut [u64]) -> Reply
-    ensures { λ r. ⌜ cameRun r (now (page .exit)) (now (bits .exit)) (now (answers .exit)) ≡ runOf (now (records .entry)) (now (page .entry)) (now (bits .entry)) (now (answers .entry)) ⌝ }
+    ensures { came_run result page.new bits.new answers.new ≡ run_of records.now page.old bits.old answers.old }
 {
     let mut words = [0u64; EVENTS];
     let filled = records::fill(records, &mut words);
@@ -39,7 +36,7 @@ fn run(records: &[u8], page: &mut [u64], bits: &mut [u64], answers: &mut [u64]) 
 
 // Whether words begin with these bytes.
 fn begins(words: &[u64], expected: &[u8]) -> bool
-    ensures { λ r. ⌜ (r ≡ true) ↔ (take (length (now (expected .entry))) (now (words .entry)) ≡ now (expected .entry)) ⌝ }
+    ensures { (result ≡ true) ↔ (take (length expected.now) words.now ≡ expected.now) }
 {
     if words.len() < expected.len() {
         return false;
@@ -56,7 +53,7 @@ fn begins(words: &[u64], expected: &[u8]) -> bool
 
 // Whether these are the answers of a run, number and value of each.
 pub fn answers(records: &[u8], expected: &[u8]) -> bool
-    ensures { λ r. ⌜ (r ≡ true) ↔ Answers (now (records .entry)) (now (expected .entry)) ⌝ }
+    ensures { (result ≡ true) ↔ Answers records.now expected.now }
 {
     let mut page = [0u64; PAGE_WORDS];
     let mut bits = [0u64; BITMAP_WORDS];
@@ -73,7 +70,7 @@ pub fn answers(records: &[u8], expected: &[u8]) -> bool
 
 // The tagged word after a run.
 pub fn tagged(records: &[u8]) -> u64
-    ensures { λ r. ⌜ r ≡ zerosRun (now (records .entry)) .after .config .state .tagged ⌝ }
+    ensures { result ≡ (zeros_run records.now).after.config.state.tagged }
 {
     let mut page = [0u64; PAGE_WORDS];
     let mut bits = [0u64; BITMAP_WORDS];
@@ -84,8 +81,8 @@ pub fn tagged(records: &[u8]) -> u64
 
 // A word of the page after a run.
 pub fn word(records: &[u8], at: usize) -> u64
-    requires { ⌜ at < 256 ⌝ }
-    ensures { λ r. ⌜ r ≡ getD (zerosRun (now (records .entry)) .after .config .page) at 0 ⌝ }
+    requires { at < 256 }
+    ensures { result ≡ get_or (zeros_run records.now).after.config.page at 0 }
 {
     let mut page = [0u64; PAGE_WORDS];
     let mut bits = [0u64; BITMAP_WORDS];

@@ -1,43 +1,43 @@
 -- `ground_check::past_end` meets its contract: what each check requires follows from the contracts. Assumes nothing.
-use mathlib.Core.Path.{ap, _∙_}
+use mathlib.Core.Path.{ap, ◌∙◌}
 use mathlib.Core.Bool.{not}
 use mathlib.Core.List.{List}
 use Prim.Native.Nat.{ℕ}
-use borrow.Author.Needs.{needs}
+use borrow.Author.Rules.{rules}
 use lib.Dec.{eqb}
-use Rattle·words.specs.Digits.{digit, putDigit}
-use Rattle·bitmap.specs.Bitmap.{bitAt, bitPut}
-use Rattle·ground_check·proofs.proofs.past_end.Statement.{statement}
-use Rattle·ground_check·proofs.proofs.past_end.Tie as tie
+use Rattle.words.specs.Digits.{digit, put_digit}
+use Rattle.bitmap.specs.Bitmap.{bit_at, bit_put}
+use Rattle.ground_check.proofs.past_end.Statement.{statement}
+use Rattle.ground_check.proofs.past_end.Tie as tie
 
 slice-aggregate-set : tie.Need-slice-aggregate-set
-slice-aggregate-set c = search needs
+slice-aggregate-set c = search rules
 
 set-requires : tie.Need-set-requires
-set-requires c κs = search needs
+set-requires c κs = search rules
 
 slice-aggregate-is-set : tie.Need-slice-aggregate-is-set
-slice-aggregate-is-set c = search needs
+slice-aggregate-is-set c = search rules
 
 is-set-requires : tie.Need-is-set-requires
-is-set-requires c κs = search needs
+is-set-requires c κs = search rules
 
 expect-requires : tie.Need-expect-requires
-unfolding bitAt bitPut digit putDigit
-expect-requires c κs = ap not (c .is-set .ensures ∙ ap (λ (l : List ℕ). eqb (bitAt l 64) 1) (c .before .before .before .set .ensures))
+unfolding bit_at bit_put digit put_digit
+expect-requires c κs = ap not (c.is_set.ensures ∙ ap (λ (l : List ℕ). eqb (bit_at l 64) 1) c.before.before.before.set.ensures)
 
 slice-aggregate-is-set-2 : tie.Need-slice-aggregate-is-set-2
-slice-aggregate-is-set-2 c = search needs
+slice-aggregate-is-set-2 c = search rules
 
 is-set-requires-2 : tie.Need-is-set-requires-2
-is-set-requires-2 c κs = search needs
+is-set-requires-2 c κs = search rules
 
 expect-requires-2 : tie.Need-expect-requires-2
-unfolding bitAt bitPut digit putDigit
-expect-requires-2 c κs = c .is-set2 .ensures ∙ ap (λ (l : List ℕ). eqb (bitAt l 0) 1) (c .before .before .before .before .before .before .set .ensures)
+unfolding bit_at bit_put digit put_digit
+expect-requires-2 c κs = c.is-set2.ensures ∙ ap (λ (l : List ℕ). eqb (bit_at l 0) 1) c.before.before.before.before.before.before.set.ensures
 
 returns : tie.Need-returns
-returns c = search needs
+returns c = search rules
 
 pub past-end-spec : {M : Type 1} → statement M
 past-end-spec =

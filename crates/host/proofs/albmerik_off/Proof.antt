@@ -1,26 +1,26 @@
 -- `host::albmerik_off` meets its contract. Assumes nothing.
-use borrow.Author.Needs.{needs}
-use Rattle·machine.specs.declared.State.{State}
-use Rattle·machine.specs.Config.{config}
-use Rattle·machine.specs.Switch.{switchOffOf}
-use Rattle·host·proofs.proofs.CallArms.{of-spelled, ended}
-use Rattle·host·proofs.proofs.albmerik_off.Statement.{statement}
-use Rattle·host·proofs.proofs.albmerik_off.Tie as tie
+use borrow.Author.Rules.{rules}
+use Rattle.machine.specs.declared.State.{State}
+use Rattle.machine.specs.Config.{config}
+use Rattle.machine.specs.Switch.{switch_off_of}
+use Rattle.host.proofs.CallArms.{of-spelled, ended}
+use Rattle.host.proofs.albmerik_off.Statement.{statement}
+use Rattle.host.proofs.albmerik_off.Tie as tie
 
 load-requires : tie.Need-load-requires
-load-requires c κs = search needs
+load-requires c κs = search rules
 
 switch-off-requires : tie.Need-switch-off-requires
-switch-off-requires c κs = search needs
+switch-off-requires c κs = search rules
 
 finish-requires : tie.Need-finish-requires
-finish-requires c κs = search needs
+finish-requires c κs = search rules
 
 returns : tie.Need-returns
 returns c =
-    let x = c .before .before .before .before .before .before .before .args in
-    ended (x .state .now) (c .finish .result) (c .before .before .switch-off .result) (c .finish .ensures)
-    (of-spelled (λ (s : State). switchOffOf (config s (x .page .now) (x .bits .now))) (x .state .now) (c .before .before .switch-off .ensures) (c .before .before .before .load .ensures))
+    let x = c.before.before.before.before.before.before.before.args in
+    ended x.state.now c.finish.result c.before.before.switch-off.result c.finish.ensures
+    (of-spelled (λ (s : State). switch_off_of (config s x.page.now x.bits.now)) x.state.now c.before.before.switch-off.ensures c.before.before.before.load.ensures)
 
 pub albmerik-off-spec : {M : Type 1} → statement M
 albmerik-off-spec = tie.close (tie.spec load-requires switch-off-requires finish-requires returns)

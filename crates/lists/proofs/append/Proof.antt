@@ -1,100 +1,100 @@
 -- `lists::append` meets its contract. Assumes nothing.
-use mathlib.Core.Path.{_≡_, refl, _∙_}
+use mathlib.Core.Path.{◌≡◌, refl, ◌∙◌}
 use mathlib.Core.Bool.{true, false}
 use lib.Dec.{eqb}
-use borrow.Author.Needs.{needs}
-use borrow.Author.Tests.{eq-eqb, ne-eqb}
-use Rattle·answers.proofs.Rows.{by-not}
-use Rattle·page.specs.Page.{keepsRulesB, soundIn}
-use Rattle·page.proofs.Rules.{rules-facts}
-use Rattle·lists·specs.specs.Lists.{Lists, lists}
-use Rattle·lists·proofs.proofs.Arms.{came-by, append-is, append-none, append-acts}
-use Rattle·lists·proofs.proofs.append.Statement.{statement}
-use Rattle·lists·proofs.proofs.append.Tie as tie
+use borrow.Author.Rules.{rules}
+use borrow.Author.Tests.{eq-eqb, ne_eqb}
+use Rattle.answers.proofs.Rows.{by-not}
+use Rattle.page.specs.Page.{keeps_rules_b, sound_in}
+use Rattle.page.proofs.Rules.{rules-facts}
+use Rattle.lists.specs.Lists.{Lists, lists}
+use Rattle.lists.proofs.Arms.{came-by, append-is, append-none, append-acts}
+use Rattle.lists.proofs.append.Statement.{statement}
+use Rattle.lists.proofs.append.Tie as tie
 
 -- the lists that came, and the way back to each test passed
 abbrev given : tie.Start → Lists
-given c = lists (c .args .own) (c .args .got) (c .args .n) (c .args .bw) (c .args .page .now) (c .args .bits .now)
+given c = lists c.args.own c.args.got c.args.n c.args.bw c.args.page.now c.args.bits.now
 
 abbrev start : tie.Else1 → tie.Start
-start c = c .before .before .before .before
+start c = c.before.before.before.before
 
 abbrev p1 : tie.Else2 → tie.Else1
-p1 c = c .before
+p1 c = c.before
 
 abbrev p2 : tie.Else3 → tie.Else2
-p2 c = c .before .before
+p2 c = c.before.before
 
 -- what each found
-t2 : (c : tie.Else1) → keepsRulesB (given (start c) .lent) ≡ true
-t2 c = by-not (c .before .fits2 .ensures) (c .if1 .left)
+t2 : (c : tie.Else1) → keeps_rules_b (given (start c)).lent ≡ true
+t2 c = by-not c.before.fits2.ensures c.if1.false
 
-t0 : (c : tie.Else2) → eqb (start (p1 c) .args .got) 0 ≡ false
-t0 c = ne-eqb _ _ (c .if2 .left)
+t0 : (c : tie.Else2) → eqb (start (p1 c)).args.got 0 ≡ false
+t0 c = ne_eqb _ _ c.if2.false
 
-t11 : (c : tie.Else3) → let l = given (start (p1 (p2 c))) in soundIn (l .lent) (l .own) ≡ true
-t11 c = by-not (c .before .sound .ensures) (c .if3 .left)
+t11 : (c : tie.Else3) → let l = given (start (p1 (p2 c))) in sound_in l.lent l.own ≡ true
+t11 c = by-not c.before.sound.ensures c.if3.false
 
 fits-requires : tie.Need-fits-requires
-fits-requires c κs = search needs
+fits-requires c κs = search rules
 
 refuse-requires : tie.Need-refuse-requires
-refuse-requires c κs = search needs
+refuse-requires c κs = search rules
 
 returns : tie.Need-returns
-returns c = came-by (c .refuse .ensures) ∙ append-is _ (by-not (c .before .before .fits2 .ensures) (c .before .if1 .taken)) refl refl refl refl
+returns c = came-by c.refuse.ensures ∙ append-is _ (by-not c.before.before.fits2.ensures c.before.if1.true) refl refl refl refl
 
 returns-2 : tie.Need-returns-2
 returns-2 c =
-    let z = eq-eqb _ _ (c .if2 .taken) in
-    append-none _ z ∙ append-is _ (t2 (c .before)) z refl refl refl
+    let z = eq-eqb _ _ c.if2.true in
+    append-none _ z ∙ append-is _ (t2 c.before) z refl refl refl
 
 sound-requires : tie.Need-sound-requires
-sound-requires c κs = search needs
+sound-requires c κs = search rules
 
 refuse-requires-2 : tie.Need-refuse-requires-2
-refuse-requires-2 c κs = search needs
+refuse-requires-2 c κs = search rules
 
 returns-3 : tie.Need-returns-3
 returns-3 c =
-    let e = c .before .before .before in
-    came-by (c .refuse2 .ensures) ∙ append-is _ (t2 (p1 e)) (t0 e) (by-not (c .before .before .sound .ensures) (c .before .if3 .taken)) refl refl
+    let e = c.before.before.before in
+    came-by c.refuse2.ensures ∙ append-is _ (t2 (p1 e)) (t0 e) (by-not c.before.before.sound.ensures c.before.if3.true) refl refl
 
 walk-requires : tie.Need-walk-requires
-walk-requires c κs = search needs
+walk-requires c κs = search rules
 
 refuse-requires-3 : tie.Need-refuse-requires-3
-refuse-requires-3 c κs = search needs
+refuse-requires-3 c κs = search rules
 
-same-length : tie.Need-same-length
-same-length c = search needs
+same_length : tie.Need-same-length
+same_length c = search rules
 
 returns-4 : tie.Need-returns-4
 returns-4 c =
-    let d = c .before .before .before in
-    let e = d .before .before in
-    came-by (c .refuse3 .ensures)
-    ∙ append-is (given (start (p1 (p2 e)))) (t2 (p1 (p2 e))) (t0 (p2 e)) (t11 e) (d .walk .ensures) (by-not refl (c .before .if4 .taken))
+    let d = c.before.before.before in
+    let e = d.before.before in
+    came-by c.refuse3.ensures
+    ∙ append-is (given (start (p1 (p2 e)))) (t2 (p1 (p2 e))) (t0 (p2 e)) (t11 e) d.walk.ensures (by-not refl c.before.if4.true)
 
 address-requires : tie.Need-address-requires
-address-requires c κs = search needs
+address-requires c κs = search rules
 
 set-link-requires : tie.Need-set-link-requires
-set-link-requires c κs = search needs
+set-link-requires c κs = search rules
 
 same-length-2 : tie.Need-same-length-2
-same-length-2 c = search needs
+same-length-2 c = search rules
 
 returns-5 : tie.Need-returns-5
 returns-5 c =
-    let i = c .before .before .before .before .before in
-    let d = i .before .before in
-    let e = d .before .before in
+    let i = c.before.before.before.before.before in
+    let d = i.before.before in
+    let e = d.before.before in
     let l = given (start (p1 (p2 e))) in
-    let t = by-not refl (i .if4 .left) in
-    append-acts l (rules-facts (l .lent) (t2 (p1 (p2 e)))) (t0 (p2 e)) (d .walk .ensures) t (c .before .before .before .address .ensures)
-    (c .before .before .set-link .ensures)
-    ∙ append-is l (t2 (p1 (p2 e))) (t0 (p2 e)) (t11 e) (d .walk .ensures) t
+    let t = by-not refl i.if4.false in
+    append-acts l (rules-facts l.lent (t2 (p1 (p2 e)))) (t0 (p2 e)) d.walk.ensures t c.before.before.before.address.ensures
+    c.before.before.set_link.ensures
+    ∙ append-is l (t2 (p1 (p2 e))) (t0 (p2 e)) (t11 e) d.walk.ensures t
 
 pub append-spec : {M : Type 1} → statement M
 append-spec =
@@ -109,7 +109,7 @@ append-spec =
     returns-3
     walk-requires
     refuse-requires-3
-    same-length
+    same_length
     returns-4
     address-requires
     set-link-requires

@@ -1,30 +1,30 @@
 -- `page::block` meets its contract. Assumes nothing.
 use mathlib.Core.Path.{sym}
-use mathlib.Core.Logic.{⊎-elim}
-use borrow.Author.Needs.{needs}
+use mathlib.Core.Logic.{⊎_elim}
+use borrow.Author.Rules.{rules}
 use native.Mathlib.Omega.{arith}
 use borrow.Author.Tests.{ltb-true, ltb-false, le-leb, lt-leb}
-use Rattle·page·specs.specs.Limits.{maxWidth}
-use Rattle·page·proofs.proofs.Rules.{block-within}
-use Rattle·page·proofs.proofs.block.Statement.{statement}
-use Rattle·page·proofs.proofs.block.Tie as tie
+use Rattle.page.specs.Limits.{max_width}
+use Rattle.page.proofs.Rules.{block_within}
+use Rattle.page.proofs.block.Statement.{statement}
+use Rattle.page.proofs.block.Tie as tie
 
-returns : tie.Need-returns
+returns : tie.Need-returns-then-bw-lt1
 returns c =
-    let bw = c .before .args .bw in
-    ⊎-elim (λ w. simp (lt-leb 1 bw (omega (arith, w .taken))))
-    (λ w. simp (le-leb 1 bw (omega (arith, w .0 .left)), lt-leb bw maxWidth (ltb-true _ _ (w .1 .taken)))) (c .if1 .came)
+    let bw = c.args.bw in
+    ⊎_elim (λ w. simp (lt-leb 1 bw (omega (arith, w.taken))))
+    (λ w. simp (le-leb 1 bw (omega (arith, w.0.left)), lt-leb bw max_width w.1)) c.if-bw-lt1.branch
 
-mul-result : tie.Need-mul-result
-mul-result c = omega (arith, ltb-false maxWidth (c .before .before .args .bw) (c .if2 .left))
+mul-result : tie.Need-overflow_mul-result
+mul-result c = omega (arith, ltb-false max_width c.args.bw c.if-bw-gt-MAX_WIDTH.false)
 
-div-result : tie.Need-div-result
-div-result c = search needs
+div-result : tie.Need-nonzero_div-result
+div-result c = search rules
 
-returns-2 : tie.Need-returns-2
+returns-2 : tie.Need-returns
 returns-2 c =
-    let x = c .before .before .args in
-    sym (block-within (x .bw) (x .h) (omega arith) (ltb-false _ _ (c .if2 .left)))
+    let x = c.args in
+    sym (block_within x.bw x.h (omega arith) c.if-bw-gt-MAX_WIDTH.false)
 
-pub block-spec : {M : Type 1} → statement M
-block-spec = tie.close (tie.spec returns mul-result div-result returns-2)
+pub block_spec : {M : Type 1} → statement M
+block_spec = tie.close (tie.spec returns mul-result div-result returns-2)

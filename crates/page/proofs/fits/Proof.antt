@@ -1,44 +1,43 @@
 -- `page::fits` meets its contract. Assumes nothing.
-use mathlib.Core.Path.{sym, _∙_}
-use mathlib.Core.Logic.{⊎-elim}
-use borrow.Author.Needs.{needs}
-use borrow.Author.Tests.{ltb-true, ltb-false, ne-eqb}
+use mathlib.Core.Path.{sym, ◌∙◌}
+use mathlib.Core.Logic.{⊎_elim}
+use borrow.Author.Rules.{rules}
+use borrow.Author.Tests.{ltb-true, ltb-false, ne_eqb}
 use native.Mathlib.Omega.{arith}
 use native.Mathlib.Nat.{mul-le-mul}
-use Prim.Native.Nat.{_+_}
-use Rattle·page·specs.specs.Limits.{maxBlocks, maxWidth}
-use Rattle·page·proofs.proofs.Rules.{fits-is, fits-not}
-use Rattle·page·proofs.proofs.fits.Statement.{statement}
-use Rattle·page·proofs.proofs.fits.Tie as tie
+use Prim.Native.Nat.{◌+◌}
+use Rattle.page.specs.Limits.{max_blocks, max_width}
+use Rattle.page.proofs.Rules.{fits-is, fits_not}
+use Rattle.page.proofs.fits.Statement.{statement}
+use Rattle.page.proofs.fits.Tie as tie
 
-returns : tie.Need-returns
+returns : tie.Need-returns-then-n-gt-MAX_BLOCKS
 returns c =
-    let x = c .before .args in
+    let x = c.args in
     sym
-    (fits-not _ _ _ _
-    (λ f. ⊎-elim (λ w. omega (arith, w .taken)) (λ v. ⊎-elim (λ w. omega (arith, ltb-true (x .bw) 1 (w .1 .taken))) (λ w. omega (arith, ltb-true maxWidth (x .bw) (w .2 .taken))) v) (c .if1 .came)))
+    (fits_not _ _ _ _
+    (λ f. ⊎_elim (λ w. omega (arith, w.taken)) (λ v. ⊎_elim (λ w. omega (arith, ltb-true x.bw 1 w.1.taken)) (λ w. omega (arith, ltb-true max_width x.bw w.2.taken)) v) c.if-n-gt-MAX_BLOCKS.branch))
 
-add-if4 : tie.Need-add-if4
-add-if4 c = search needs
+add-if4 : tie.Need-overflow_add-n
+add-if4 c = search rules
 
-mul-if4 : tie.Need-mul-if4
+mul-if4 : tie.Need-overflow_mul-n
 mul-if4 c =
-    let x = c .before .before .before .args in
-    omega (arith, mul-le-mul {n₁ = x .n + 1} {m₁ = x .bw} {n₂ = maxBlocks + 1} {m₂ = maxWidth} (omega arith) (ltb-false _ _ (c .if3 .left)))
+    let x = c.args in
+    omega (arith, mul-le-mul {n₁ = x.n + 1} {m₁ = x.bw} {n₂ = max_blocks + 1} {m₂ = max_width} (omega arith) c.if-bw-gt-MAX_WIDTH.false)
 
-add-result : tie.Need-add-result
-add-result c = search needs
+add-result : tie.Need-overflow_add-result
+add-result c = search rules
 
-returns-2 : tie.Need-returns-2
+returns-2 : tie.Need-returns-then-page_words-n
 returns-2 c =
-    let x = c .before .before .before .before .args in
-    fits-is (x .n) (x .bw) (x .page-words) (x .bits-words) (c .before .before .before .if1 .left) (ltb-false _ _ (c .before .before .if2 .left)) (ltb-false _ _ (c .before .if3 .left)) (c .if4 .taken)
+    let x = c.args in
+    fits-is x.n x.bw x.page-words x.bits-words c.if-n-gt-MAX_BLOCKS.false c.if-bw-lt1.false c.if-bw-gt-MAX_WIDTH.false c.if-page_words-n.true
 
-returns-3 : tie.Need-returns-3
+returns-3 : tie.Need-returns-else-page_words-n
 returns-3 c =
-    let x = c .before .before .before .before .args in
-    ne-eqb _ _ (c .if4 .left) ∙ sym (fits-not (x .n) (x .bw) (x .page-words) (x .bits-words) (λ f. c .if4 .left (f .3)))
+    let x = c.args in
+    ne_eqb _ _ c.if-page_words-n.false ∙ sym (fits_not x.n x.bw x.page-words x.bits-words (λ f. c.if-page_words-n.false f.3))
 
-pub fits-spec : {M : Type 1} → statement M
-fits-spec =
-    tie.close (tie.spec returns add-if4 mul-if4 add-result returns-2 returns-3)
+pub fits_spec : {M : Type 1} → statement M
+fits_spec = tie.close (tie.spec returns add-if4 mul-if4 add-result returns-2 returns-3)

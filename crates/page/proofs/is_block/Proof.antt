@@ -1,18 +1,18 @@
 -- `page::is_block` meets its contract. Assumes nothing.
-use mathlib.Core.Path.{sym, _∙_}
+use mathlib.Core.Path.{sym, ◌∙◌}
 use borrow.Author.Tests.{lt-leb}
 use native.Mathlib.Omega.{arith}
-use Rattle·page·proofs.proofs.Rules.{block-below, block-not}
-use Rattle·page·proofs.proofs.is_block.Statement.{statement}
-use Rattle·page·proofs.proofs.is_block.Tie as tie
+use Rattle.page.proofs.Rules.{block-below, block-not}
+use Rattle.page.proofs.is_block.Statement.{statement}
+use Rattle.page.proofs.is_block.Tie as tie
 
-returns : tie.Need-returns
-returns c = block-below _ _ (c .if1 .taken)
+returns : tie.Need-returns-then-a-ge1
+returns c = block-below _ _ c.if-a-ge1.true
 
-returns-2 : tie.Need-returns-2
+returns-2 : tie.Need-returns-else-a-ge1
 returns-2 c =
-    let x = c .before .args in
-    lt-leb _ _ (c .if1 .left) ∙ sym (block-not (x .n) (x .a) (λ f. omega arith))
+    let x = c.args in
+    lt-leb _ _ c.if-a-ge1.false ∙ sym (block-not x.n x.a (λ f. omega arith))
 
-pub is-block-spec : {M : Type 1} → statement M
-is-block-spec = tie.close (tie.spec returns returns-2)
+pub is_block_spec : {M : Type 1} → statement M
+is_block_spec = tie.close (tie.spec returns returns-2)

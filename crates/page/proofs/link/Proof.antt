@@ -1,21 +1,21 @@
 -- `page::link` meets its contract. Assumes nothing.
 use mathlib.Core.Path.{sym}
-use borrow.Author.Needs.{needs}
-use lib.ListN.{List·getD-eq-default}
-use Rattle·page·proofs.proofs.link.Statement.{statement}
-use Rattle·page·proofs.proofs.link.Tie as tie
+use borrow.Author.Rules.{rules}
+use lib.ListN.{get_or-eq_default}
+use Rattle.page.proofs.link.Statement.{statement}
+use Rattle.page.proofs.link.Tie as tie
 
-mul-result : tie.Need-mul-result
-mul-result c = search needs
+mul-result : tie.Need-offset_bounds-page-at
+mul-result c = search rules
 
-shared-slice-read-result : tie.Need-shared-slice-read-result
-shared-slice-read-result c = search needs
+shared-slice-read-result : tie.Need-bounds-page-at
+shared-slice-read-result c = search rules
 
-returns : tie.Need-returns
-returns c = search needs
+returns : tie.Need-returns-then-at-page
+returns c = search rules
 
-returns-2 : tie.Need-returns-2
-returns-2 c = sym (List·getD-eq-default (c .before .args .page .now) 0 (c .if1 .left))
+returns-2 : tie.Need-returns
+returns-2 c = sym (get_or-eq_default c.args.page.now 0 c.if-at-page.false)
 
-pub link-spec : {M : Type 1} → statement M
-link-spec = tie.close (tie.spec mul-result shared-slice-read-result returns returns-2)
+pub link_spec : {M : Type 1} → statement M
+link_spec = tie.close (tie.spec mul-result shared-slice-read-result returns returns-2)

@@ -1,27 +1,27 @@
 -- `page::set_link` meets its contract. Assumes nothing.
-use Prim.Native.Nat.{_/_}
+use Prim.Native.Nat.{◌/◌}
 use mathlib.Core.Path.{sym}
-use borrow.Author.Needs.{needs}
-use lib.Seq.{set-out}
-use Rattle·page·proofs.proofs.set_link.Statement.{statement}
-use Rattle·page·proofs.proofs.set_link.Tie as tie
+use borrow.Author.Rules.{rules}
+use lib.Seq.{set_out}
+use Rattle.page.proofs.set_link.Statement.{statement}
+use Rattle.page.proofs.set_link.Tie as tie
 
-mul-page : tie.Need-mul-page
-mul-page c = search needs
+mul-page : tie.Need-offset_bounds-page-at
+mul-page c = search rules
 
-slice-write-page : tie.Need-slice-write-page
-slice-write-page c = search needs
+slice-write-page : tie.Need-bounds-page-at
+slice-write-page c = search rules
 
-same-length : tie.Need-same-length
-same-length c = search needs
+same_length : tie.Need-shape_of-page
+same_length c = search rules
 
-returns : tie.Need-returns
-returns c = search needs
+returns : tie.Need-returns-then-at-page
+returns c = search rules
 
-returns-2 : tie.Need-returns-2
+returns-2 : tie.Need-returns-else-at-page
 returns-2 c =
-    let x = c .before .args in
-    sym (set-out (x .page .now) (x .h / 8) (x .to) (c .if1 .left))
+    let x = c.args in
+    sym (set_out x.page.now (x.h / 8) x.to c.if-at-page.false)
 
-pub set-link-spec : {M : Type 1} → statement M
-set-link-spec = tie.close (tie.spec mul-page slice-write-page same-length returns returns-2)
+pub set_link_spec : {M : Type 1} → statement M
+set_link_spec = tie.close (tie.spec mul-page slice-write-page same_length returns returns-2)

@@ -1,59 +1,59 @@
 -- `readers::entry` meets its contract. Assumes nothing.
-use borrow.Author.Needs.{needs}
+use borrow.Author.Rules.{rules}
 use native.Mathlib.Omega.{arith}
-use Rattle·page.specs.Page.{lent}
-use Rattle·readers·proofs.proofs.ReaderArms.{Lies, entry-none, entry-some, entry-lies}
-use Rattle·readers·proofs.proofs.entry.Statement.{statement}
-use Rattle·readers·proofs.proofs.entry.Tie as tie
+use Rattle.page.specs.Page.{lent}
+use Rattle.readers.proofs.ReaderArms.{Lies, entry-none, entry-some, entry-lies}
+use Rattle.readers.proofs.entry.Statement.{statement}
+use Rattle.readers.proofs.entry.Tie as tie
 
 -- where the entry lies
-lies : (c : tie.Else1) → let x = c .before .before .before .before .args in Lies (lent (x .n) (x .bw) (x .page .now) (x .bits .now)) (x .w) (x .a)
-lies c = entry-lies _ _ _ (c .before .entry-number .ensures) (c .if1 .left)
+lies : (c : tie.Else1) → let x = c.before.before.before.before.args in Lies (lent x.n x.bw x.page.now x.bits.now) x.w x.a
+lies c = entry-lies _ _ _ c.before.entry-number.ensures c.if1.false
 
 entry-number-requires : tie.Need-entry-number-requires
-entry-number-requires c κs = search needs
+entry-number-requires c κs = search rules
 
-sub-result : tie.Need-sub-result
-sub-result c = search needs
+sub-result : tie.Need-overflow-sub-result
+sub-result c = search rules
 
-part-result-start : tie.Need-part-result-start
-part-result-start c = search needs
+part-result-start : tie.Need-slice-bounds-result-start
+part-result-start c = search rules
 
-part-result-end : tie.Need-part-result-end
-part-result-end c = search needs
+part-result-end : tie.Need-slice-bounds-result-end
+part-result-end c = search rules
 
 returns : tie.Need-returns
-returns c = entry-none _ _ _ (c .before .before .entry-number .ensures) (c .before .if1 .taken)
+returns c = entry-none _ _ _ c.before.before.entry-number.ensures c.before.if1.true
 
-mul-from : tie.Need-mul-from
+mul-from : tie.Need-overflow-mul-from
 mul-from c = omega (arith, lies c)
 
-add-from : tie.Need-add-from
+add-from : tie.Need-overflow-add-from
 add-from c = omega (arith, lies c)
 
-mul-end : tie.Need-mul-end
+mul-end : tie.Need-overflow-mul-end
 mul-end c = omega (arith, lies c)
 
-add-end : tie.Need-add-end
+add-end : tie.Need-overflow-add-end
 add-end c = omega (arith, lies c)
 
-mul-result : tie.Need-mul-result
+mul-result : tie.Need-overflow-mul-result
 mul-result c = omega (arith, lies c)
 
-sub-result-2 : tie.Need-sub-result-2
+sub-result-2 : tie.Need-overflow-sub-result-2
 sub-result-2 c = omega (arith, lies c)
 
-part-result-start-2 : tie.Need-part-result-start-2
+part-result-start-2 : tie.Need-slice-bounds-result-start-2
 part-result-start-2 c = omega (arith, lies c)
 
-part-result-end-2 : tie.Need-part-result-end-2
+part-result-end-2 : tie.Need-slice-bounds-result-end-2
 part-result-end-2 c = omega (arith, lies c)
 
 returns-2 : tie.Need-returns-2
-returns-2 c = entry-some _ _ _ (c .before .before .entry-number .ensures) (c .before .if1 .left)
+returns-2 c = entry-some _ _ _ c.before.before.entry-number.ensures c.before.if1.false
 
-pub entry-spec : {M : Type 1} → statement M
-entry-spec =
+pub entry_spec : {M : Type 1} → statement M
+entry_spec =
     tie.close
     (tie.spec
     entry-number-requires

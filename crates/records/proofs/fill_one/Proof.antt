@@ -1,82 +1,77 @@
 -- `records::fill_one` meets its contract: each arm of the match is what the definition does with what was decoded.
 -- Assumes nothing.
-use mathlib.Core.Path.{sym, ap, _∙_}
-use Prim.Native.Nat.{_+_}
+use mathlib.Core.Path.{sym, ap, ◌∙◌}
+use Prim.Native.Nat.{◌+◌}
 use borrow.Author.Tests.{lt-ltb, le-ltb}
-use Rattle·records·specs.specs.Fill.{filling, going}
-use Rattle·records·proofs.proofs.Turns.{next-is, event-is}
-use borrow.Author.Needs.{needs}
-use Rattle·records·proofs.proofs.fill_one.Statement.{statement}
-use Rattle·records·proofs.proofs.fill_one.Tie as tie
+use Rattle.records.specs.Fill.{filling, going}
+use Rattle.records.proofs.Turns.{next-is, event-is}
+use borrow.Author.Rules.{rules}
+use Rattle.records.proofs.fill_one.Statement.{statement}
+use Rattle.records.proofs.fill_one.Tie as tie
 
-mul-at : tie.Need-mul-at
-mul-at c = search needs
+mul_at : tie.Need-overflow_mul-at
+mul_at c = search rules
 
-mul-to : tie.Need-mul-to
-mul-to c = search needs
+mul-to : tie.Need-overflow_mul-to
+mul-to c = search rules
 
 decode-requires : tie.Need-decode-requires
-decode-requires c κs = search needs
+decode-requires c κs = search rules
 
-enum-told : tie.Need-enum-told
-enum-told c = search needs
+enum_told : tie.Need-enum_told-1
+enum_told c = search rules
 
-enum-told-2 : tie.Need-enum-told-2
-enum-told-2 c = search needs
+enum-told-2 : tie.Need-enum_told-in-Cut
+enum-told-2 c = search rules
 
-enum-told-3 : tie.Need-enum-told-3
-enum-told-3 c = search needs
+enum-told-3 : tie.Need-enum_told-in-Unknown
+enum-told-3 c = search rules
 
-enum-known-event : tie.Need-enum-known-event
-enum-known-event c = search needs
+enum-known-event : tie.Need-enum_known-event
+enum-known-event c = search rules
 
-sub-if1 : tie.Need-sub-if1
-sub-if1 c = search needs
+sub-if1 : tie.Need-overflow_sub-events
+sub-if1 c = search rules
 
-returns : tie.Need-returns
+returns : tie.Need-returns-then-events-to-lt5
 returns c =
-    let p = c .before .before .before .before in
-    let x = p .before .before .before .args in
-    event-is (x .bytes .now) (x .k) (x .events .now) (sym (c .before .before .event .given .1) ∙ p .decode .ensures) (lt-ltb _ _ (c .if1 .taken))
+    let x = c.args in
+    event-is x.bytes.now x.k x.events.now (sym c.in-Event.is ∙ c.decode.ensures) (lt-ltb _ _ c.if-events-to-lt5.true)
 
 put-requires : tie.Need-put-requires
-put-requires c κs = search needs
+put-requires c κs = search rules
 
-returns-2 : tie.Need-returns-2
+returns-2 : tie.Need-returns-in-End
 returns-2 c =
-    let x = c .before .before .before .before .before .args in
-    next-is (x .bytes .now) (x .k) (x .events .now) (sym (c .enum-told .given .1) ∙ c .before .before .decode .ensures)
+    let x = c.args in
+    next-is x.bytes.now x.k x.events.now (sym c.in-End.is ∙ c.decode.ensures)
 
-returns-3 : tie.Need-returns-3
+returns-3 : tie.Need-returns-in-Cut
 returns-3 c =
-    let x = c .before .before .before .before .before .args in
-    next-is (x .bytes .now) (x .k) (x .events .now) (sym (c .enum-told2 .given .1) ∙ c .before .before .decode .ensures)
+    let x = c.args in
+    next-is x.bytes.now x.k x.events.now (sym c.in-Cut.is ∙ c.decode.ensures)
 
-returns-4 : tie.Need-returns-4
+returns-4 : tie.Need-returns-in-Unknown
 returns-4 c =
-    let x = c .before .before .before .before .before .args in
-    next-is (x .bytes .now) (x .k) (x .events .now) (sym (c .enum-told3 .given .1) ∙ c .before .before .decode .ensures)
+    let x = c.args in
+    next-is x.bytes.now x.k x.events.now (sym c.in-Unknown.is ∙ c.decode.ensures)
 
-same-length : tie.Need-same-length
-same-length c = search needs
+same_length : tie.Need-shape_of-events
+same_length c = search rules
 
-returns-5 : tie.Need-returns-5
+returns-5 : tie.Need-returns-else-events-to-lt5
 returns-5 c =
-    let q = c .before .before in
-    let p = q .before .before in
-    let o = p .before .before in
-    let x = o .before .before .before .before .before .args in
-    ap (filling (x .k + 1) going) (q .put .ensures)
-    ∙ event-is (x .bytes .now) (x .k) (x .events .now) (sym (o .event .given .1) ∙ o .before .before .decode .ensures) (le-ltb _ _ (p .if1 .left))
+    let x = c.args in
+    ap (filling (x.k + 1) going) c.put.ensures
+    ∙ event-is x.bytes.now x.k x.events.now (sym c.in-Event.is ∙ c.decode.ensures) (le-ltb _ _ c.if-events-to-lt5.false)
 
-pub fill-one-spec : {M : Type 1} → statement M
-fill-one-spec =
-    tie.close
+pub fill_one_spec : {M : Type 1} → statement M
+fill_one_spec = tie.close
     (tie.spec
-    mul-at
+    mul_at
     mul-to
     decode-requires
-    enum-told
+    enum_told
     enum-told-2
     enum-told-3
     enum-known-event
@@ -86,5 +81,5 @@ fill-one-spec =
     returns-2
     returns-3
     returns-4
-    same-length
+    same_length
     returns-5)

@@ -1,65 +1,64 @@
 -- `records::put` meets its contract: five stores, each within the words. Assumes nothing.
 use native.Mathlib.Omega.{arith}
 use lib.ListN.{length-set}
-use borrow.Author.Needs.{needs}
-use Rattle·records·proofs.proofs.put.Statement.{statement}
-use Rattle·records·proofs.proofs.put.Tie as tie
+use borrow.Author.Rules.{rules}
+use Rattle.records.proofs.put.Statement.{statement}
+use Rattle.records.proofs.put.Tie as tie
 
-mul-words : tie.Need-mul-words
-mul-words c = search needs
+mul_words : tie.Need-offset_bounds-words-to
+mul_words c = search rules
 
-slice-write-words : tie.Need-slice-write-words
-slice-write-words c = search needs
+slice-write-words : tie.Need-bounds-words-to
+slice-write-words c = search rules
 
-add-words : tie.Need-add-words
-add-words c = search needs
+add_words : tie.Need-overflow_add-words
+add_words c = search rules
 
-mul-words-2 : tie.Need-mul-words-2
-mul-words-2 c = search needs
+mul-words-2 : tie.Need-offset_bounds-words-to-2
+mul-words-2 c = search rules
 
-slice-write-words-2 : tie.Need-slice-write-words-2
+slice-write-words-2 : tie.Need-bounds-words-to-2
 slice-write-words-2 c = simp length-set (omega arith)
 
-add-words-2 : tie.Need-add-words-2
-add-words-2 c = search needs
+add-words-2 : tie.Need-overflow_add-words-2
+add-words-2 c = search rules
 
-mul-words-3 : tie.Need-mul-words-3
-mul-words-3 c = search needs
+mul-words-3 : tie.Need-offset_bounds-words-to-3
+mul-words-3 c = search rules
 
-slice-write-words-3 : tie.Need-slice-write-words-3
+slice-write-words-3 : tie.Need-bounds-words-to-3
 slice-write-words-3 c = simp length-set (omega arith)
 
-add-words-3 : tie.Need-add-words-3
-add-words-3 c = search needs
+add-words-3 : tie.Need-overflow_add-words-3
+add-words-3 c = search rules
 
-mul-words-4 : tie.Need-mul-words-4
-mul-words-4 c = search needs
+mul-words-4 : tie.Need-offset_bounds-words-to-4
+mul-words-4 c = search rules
 
-slice-write-words-4 : tie.Need-slice-write-words-4
+slice-write-words-4 : tie.Need-bounds-words-to-4
 slice-write-words-4 c = simp length-set (omega arith)
 
-add-words-4 : tie.Need-add-words-4
-add-words-4 c = search needs
+add-words-4 : tie.Need-overflow_add-words-4
+add-words-4 c = search rules
 
-mul-words-5 : tie.Need-mul-words-5
-mul-words-5 c = search needs
+mul-words-5 : tie.Need-offset_bounds-words-to-5
+mul-words-5 c = search rules
 
-slice-write-words-5 : tie.Need-slice-write-words-5
+slice-write-words-5 : tie.Need-bounds-words-to-5
 slice-write-words-5 c = simp length-set (omega arith)
 
-same-length : tie.Need-same-length
-same-length c = search needs
+same_length : tie.Need-shape_of-words
+same_length c = search rules
 
 returns : tie.Need-returns
-returns c = search needs
+returns c = search rules
 
-pub put-spec : {M : Type 1} → statement M
-put-spec =
-    tie.close
+pub put_spec : {M : Type 1} → statement M
+put_spec = tie.close
     (tie.spec
-    mul-words
+    mul_words
     slice-write-words
-    add-words
+    add_words
     mul-words-2
     slice-write-words-2
     add-words-2
@@ -71,5 +70,5 @@ put-spec =
     add-words-4
     mul-words-5
     slice-write-words-5
-    same-length
+    same_length
     returns)

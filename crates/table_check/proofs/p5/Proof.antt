@@ -1,20 +1,20 @@
 -- `table_check::p5` meets its contract: what each check requires was computed on the definitions. Assumes nothing.
-use borrow.Author.Needs.{needs}
-use Rattle·table_check·proofs.proofs.Vectors.{vectors}
-use Rattle·table_check·proofs.proofs.p5.Statement.{statement}
-use Rattle·table_check·proofs.proofs.p5.Tie as tie
+use borrow.Author.Rules.{rules}
+use Rattle.table_check.proofs.Vectors.{vectors}
+use Rattle.table_check.proofs.p5.Statement.{statement}
+use Rattle.table_check.proofs.p5.Tie as tie
 
 slice-aggregate-answers : tie.Need-slice-aggregate-answers
-slice-aggregate-answers c = search needs
+slice-aggregate-answers c = search rules
 
 answers-requires : tie.Need-answers-requires
-answers-requires c κs = search needs
+answers-requires c κs = search rules
 
 expect-requires : tie.Need-expect-requires
-expect-requires c κs = c .answers .ensures .1 (vectors .p5-answers)
+expect-requires c κs = c.answers.ensures.1 vectors.p5-answers
 
 returns : tie.Need-returns
-returns c = search needs
+returns c = search rules
 
 pub p5-spec : {M : Type 1} → statement M
 p5-spec = tie.close (tie.spec slice-aggregate-answers answers-requires expect-requires returns)

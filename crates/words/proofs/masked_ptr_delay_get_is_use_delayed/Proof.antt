@@ -2,12 +2,12 @@
 use mathlib.Core.Path.{ap}
 use Prim.Native.Nat.{ℕ}
 use lib.Dec.{eqb}
-use Rattle·words·proofs.proofs.Masks.{tag-mask}
-use Rattle·words·proofs.proofs.masked_ptr_delay_get_is_use_delayed.Statement.{statement}
-use Rattle·words·proofs.proofs.masked_ptr_delay_get_is_use_delayed.Tie as tie
+use Rattle.words.proofs.Masks.{tag-mask}
+use Rattle.words.proofs.masked_ptr_delay_get_is_use_delayed.Statement.{statement}
+use Rattle.words.proofs.masked_ptr_delay_get_is_use_delayed.Tie as tie
 
 returns : tie.Need-returns
-returns c = ap (λ (t : ℕ). eqb t 0) (tag-mask (c .args .v))
+returns c = ap (λ (t : ℕ). eqb t 0) (tag-mask c.args.v)
 
-pub masked-ptr-delay-get-is-use-delayed-spec : {M : Type 1} → statement M
-masked-ptr-delay-get-is-use-delayed-spec = tie.close (tie.spec returns)
+pub masked_ptr_delay_get_is_use_delayed_spec : {M : Type 1} → statement M
+masked_ptr_delay_get_is_use_delayed_spec = tie.close (tie.spec returns)

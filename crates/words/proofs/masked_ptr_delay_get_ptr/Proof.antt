@@ -1,10 +1,10 @@
 -- `words::masked_ptr_delay_get_ptr` meets its contract. Assumes nothing.
-use Rattle·words·proofs.proofs.Masks.{address-mask}
-use Rattle·words·proofs.proofs.masked_ptr_delay_get_ptr.Statement.{statement}
-use Rattle·words·proofs.proofs.masked_ptr_delay_get_ptr.Tie as tie
+use Rattle.words.proofs.Masks.{address-mask}
+use Rattle.words.proofs.masked_ptr_delay_get_ptr.Statement.{statement}
+use Rattle.words.proofs.masked_ptr_delay_get_ptr.Tie as tie
 
 returns : tie.Need-returns
-returns c = address-mask (c .args .v) (c .fits .v .fits)
+returns c = address-mask c.args.v c.ranges.v.fits
 
-pub masked-ptr-delay-get-ptr-spec : {M : Type 1} → statement M
-masked-ptr-delay-get-ptr-spec = tie.close (tie.spec returns)
+pub masked_ptr_delay_get_ptr_spec : {M : Type 1} → statement M
+masked_ptr_delay_get_ptr_spec = tie.close (tie.spec returns)

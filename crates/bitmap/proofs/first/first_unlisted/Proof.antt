@@ -1,70 +1,69 @@
 -- `bitmap::first::first_unlisted` meets its contract. The loop's invariant: every block of the words passed is
 -- listed. Assumes nothing.
-use mathlib.Core.Path.{sym, _∙_, subst}
-use Prim.Native.Nat.{ℕ, _+_, _-_, _*_, _≤_}
-use borrow.Author.Needs.{needs}
+use mathlib.Core.Path.{sym, ◌∙◌, subst}
+use Prim.Native.Nat.{ℕ, ◌+◌, ◌-◌, ◌*◌, ◌≤◌}
+use borrow.Author.Rules.{rules}
 use native.Mathlib.Omega.{arith}
-use Rattle·bitmap·specs.specs.Bitmap.{withZero, FirstClear}
-use Rattle·bitmap·proofs.proofs.Trailing.{SetBelow, word-below, word-smallest, first-all, first-within}
-use Rattle·bitmap·proofs.proofs.first.first_unlisted.Statement.{statement}
-use Rattle·bitmap·proofs.proofs.first.first_unlisted.Tie as tie
+use Rattle.bitmap.specs.Bitmap.{with_zero, FirstClear}
+use Rattle.bitmap.proofs.Trailing.{SetBelow, word_below, word-smallest, first-all, first-within}
+use Rattle.bitmap.proofs.first.first_unlisted.Statement.{statement}
+use Rattle.bitmap.proofs.first.first_unlisted.Tie as tie
 
-abbrev Inv-loop : tie.InvT-loop
-Inv-loop bits n last w₀ w = (w ≤ last + 1) × SetBelow bits (w * 64)
+abbrev invariant-loop : tie.invariant-loop-w
+invariant-loop bits n last w₀ w = (w ≤ last + 1) × SetBelow bits (w * 64)
 
-abbrev μ-loop : tie.MeasureT-loop
-μ-loop bits n last w₀ w = (last + 1) - w
+abbrev decreases-loop : tie.decreases-loop-w
+decreases-loop bits n last w₀ w = (last + 1) - w
 
-loop-holds : tie.Need-loop-holds Inv-loop μ-loop
-loop-holds c = (search needs, λ j p l. absurd (omega arith))
+loop-holds : tie.Need-loop-w-init invariant-loop decreases-loop
+loop-holds c = (search rules, λ j p l. absurd (omega arith))
 
-with-zero-requires : tie.Need-with-zero-requires Inv-loop μ-loop
-with-zero-requires c κs = search needs
+with-zero-requires : tie.Need-with_zero-requires invariant-loop decreases-loop
+with-zero-requires c κs = search rules
 
-first-clear-requires : tie.Need-first-clear-requires Inv-loop μ-loop
-first-clear-requires c κs = search needs
+first-clear-requires : tie.Need-first_clear-k-requires invariant-loop decreases-loop
+first-clear-requires c κs = search rules
 
 -- what is known once word w is looked at
-look : (c : tie.After-first-clear Inv-loop μ-loop)
-    → FirstClear (withZero (c .before .before .before .before .before .args .bits .now) (c .before .before .before .loop .w)) (c .first-clear .result)
-look c = subst (λ (x : ℕ). FirstClear x (c .first-clear .result)) (c .before .with-zero .ensures) (c .first-clear .ensures)
+look : (c : tie.After-first_clear-k invariant-loop decreases-loop)
+    → FirstClear (with_zero c.args.bits.now c.loop-w.w) c.first_clear-k.result
+look c = subst (λ (x : ℕ). FirstClear x c.first_clear-k.result) c.with_zero.ensures c.first_clear-k.ensures
 
-mul-within : tie.Need-mul-within Inv-loop μ-loop
-mul-within c = search needs
+mul-within : tie.Need-overflow_mul-w invariant-loop decreases-loop
+mul-within c = search rules
 
-add-within : tie.Need-add-within Inv-loop μ-loop
-add-within c = search needs
+add-within : tie.Need-overflow_add-w invariant-loop decreases-loop
+add-within c = search rules
 
-within-requires : tie.Need-within-requires Inv-loop μ-loop
-within-requires c κs = search needs
+within-requires : tie.Need-within-requires invariant-loop decreases-loop
+within-requires c κs = search rules
 
-returns : tie.Need-returns Inv-loop μ-loop
+returns : tie.Need-returns-then-k-lt64 invariant-loop decreases-loop
 returns c =
-    let a = c .before .before .before .before .before .before .before .args in
-    c .within .ensures
-    ∙ sym (first-within (a .bits .now) (a .n) _ (word-smallest _ _ _ (look (c .before .before)) (c .before .before .before .before .before .loop .inv .1) (c .before .if1 .taken)))
+    let a = c.args in
+    c.within.ensures
+    ∙ sym (first-within a.bits.now a.n _ (word-smallest _ _ _ (look c.before.before) c.loop-w.invariant.1 c.if-k-lt64.true))
 
-add-w : tie.Need-add-w Inv-loop μ-loop
-add-w c = search needs
+add-w : tie.Need-overflow_add-w-in-loop-w invariant-loop decreases-loop
+add-w c = search rules
 
-loop-less : tie.Need-loop-less Inv-loop μ-loop
-loop-less c = search needs
+loop-less : tie.Need-loop-w-smaller invariant-loop decreases-loop
+loop-less c = search rules
 
-loop-again : tie.Need-loop-again Inv-loop μ-loop
+loop-again : tie.Need-loop-w-preserved invariant-loop decreases-loop
 loop-again c =
-    (search needs, λ j p l. word-below _ _ _ (look (c .before)) (c .before .before .before .before .loop .inv .1) j p (omega arith))
+    (search rules, λ j p l. word_below _ _ _ (look c.before) c.loop-w.invariant.1 j p (omega arith))
 
-returns-2 : tie.Need-returns-2 Inv-loop μ-loop
+returns-2 : tie.Need-returns invariant-loop decreases-loop
 returns-2 c =
-    let a = c .before .before .before .args in
-    sym (first-all (a .bits .now) (a .n) (λ j p l. c .before .loop .inv .1 j p (omega arith)))
+    let a = c.args in
+    sym (first-all a.bits.now a.n (λ j p l. c.loop-w.invariant.1 j p (omega arith)))
 
-pub first-unlisted-spec : {M : Type 1} → statement M
-first-unlisted-spec =
-    tie.close
+pub first_unlisted_spec : {M : Type 1} → statement M
+first_unlisted_spec = tie.close
     (tie.spec
-    Inv-loop
-    μ-loop
+    invariant-loop
+    decreases-loop
     loop-holds
     with-zero-requires
     first-clear-requires

@@ -1,69 +1,68 @@
 -- `bitmap::runs::any_set` meets its contract. The loop's invariant: none of the bits seen is set. Assumes nothing.
-use mathlib.Core.Path.{_≡_, refl, sym, ap, _∙_}
+use mathlib.Core.Path.{◌≡◌, refl, sym, ap, ◌∙◌}
 use mathlib.Core.Bool.{false}
-use Prim.Native.Nat.{_-_, _≤_}
-use borrow.Author.Needs.{needs}
+use Prim.Native.Nat.{◌-◌, ◌≤◌}
+use borrow.Author.Rules.{rules}
 use native.Mathlib.Omega.{arith}
-use Rattle·bitmap·specs.specs.Bitmap.{anyFrom, anySet, runLength}
-use Rattle·bitmap·proofs.proofs.Ranges.{any-at, any-more, any-past}
-use Rattle·bitmap·proofs.proofs.runs.any_set.Statement.{statement}
-use Rattle·bitmap·proofs.proofs.runs.any_set.Tie as tie
+use Rattle.bitmap.specs.Bitmap.{any_from, any_set, run_length}
+use Rattle.bitmap.proofs.Ranges.{any_at, any-more, any-past}
+use Rattle.bitmap.proofs.runs.any_set.Statement.{statement}
+use Rattle.bitmap.proofs.runs.any_set.Tie as tie
 
-abbrev Inv-loop : tie.InvT-loop
-Inv-loop bits a b m seen₀ seen = (seen ≤ m) × (anySet bits a seen ≡ false)
+abbrev invariant-loop : tie.invariant-loop-seen
+invariant-loop bits a b m seen₀ seen = (seen ≤ m) × (any_set bits a seen ≡ false)
 
-abbrev μ-loop : tie.MeasureT-loop
-μ-loop bits a b m seen₀ seen = m - seen
+abbrev decreases-loop : tie.decreases-loop-seen
+decreases-loop bits a b m seen₀ seen = m - seen
 
-reach-requires : tie.Need-reach-requires Inv-loop μ-loop
-reach-requires c κs = search needs
+reach-requires : tie.Need-reach-m-requires invariant-loop decreases-loop
+reach-requires c κs = search rules
 
-loop-holds : tie.Need-loop-holds Inv-loop μ-loop
-unfolding anyFrom
-loop-holds c = (search needs, refl)
+loop-holds : tie.Need-loop-seen-init invariant-loop decreases-loop
+unfolding any_from
+loop-holds c = (search rules, refl)
 
-add-i : tie.Need-add-i Inv-loop μ-loop
-add-i c = search needs
+add-i : tie.Need-overflow_add-i invariant-loop decreases-loop
+add-i c = search rules
 
-returns : tie.Need-returns Inv-loop μ-loop
+returns : tie.Need-returns-then-bits-i invariant-loop decreases-loop
 returns c =
-    let a = c .before .before .before .before .before .args in
-    let l = c .before .before .loop in
-    sym (any-past (a .bits .now) (a .a) (l .seen) (runLength (a .a) (a .b)) (omega arith) (c .if1 .taken) (l .inv .1))
+    let a = c.args in
+    let l = c.loop-seen in
+    sym (any-past a.bits.now a.a l.seen (run_length a.a a.b) (omega arith) c.if-bits-i.true l.invariant.1)
 
-is-set-requires : tie.Need-is-set-requires Inv-loop μ-loop
-is-set-requires c κs = search needs
+is-set-requires : tie.Need-is_set-requires invariant-loop decreases-loop
+is-set-requires c κs = search rules
 
-returns-2 : tie.Need-returns-2 Inv-loop μ-loop
+returns-2 : tie.Need-returns-then-is_set invariant-loop decreases-loop
 returns-2 c =
-    let a = c .before .before .before .before .before .before .before .args in
+    let a = c.args in
     sym
-    (any-at (a .bits .now) (a .a) (runLength (a .a) (a .b)) (c .before .before .before .before .loop .seen) (omega arith)
-    (sym (c .before .is-set .ensures) ∙ c .if2 .taken))
+    (any_at a.bits.now a.a (run_length a.a a.b) c.loop-seen.seen (omega arith)
+    (sym c.is_set.ensures ∙ c.if-is_set.true))
 
-add-seen : tie.Need-add-seen Inv-loop μ-loop
-add-seen c = search needs
+add-seen : tie.Need-overflow_add-seen invariant-loop decreases-loop
+add-seen c = search rules
 
-loop-less : tie.Need-loop-less Inv-loop μ-loop
-loop-less c = search needs
+loop-less : tie.Need-loop-seen-smaller invariant-loop decreases-loop
+loop-less c = search rules
 
-loop-again : tie.Need-loop-again Inv-loop μ-loop
+loop-again : tie.Need-loop-seen-preserved invariant-loop decreases-loop
 loop-again c =
-    (search needs, any-more _ _ _ (c .before .before .before .before .loop .inv .1) (sym (c .before .is-set .ensures) ∙ c .if2 .left))
+    (search rules, any-more _ _ _ c.loop-seen.invariant.1 (sym c.is_set.ensures ∙ c.if-is_set.false))
 
-returns-3 : tie.Need-returns-3 Inv-loop μ-loop
+returns-3 : tie.Need-returns invariant-loop decreases-loop
 returns-3 c =
-    let a = c .before .before .before .before .args in
-    let l = c .before .loop in
-    let e : l .seen ≡ runLength (a .a) (a .b) = omega arith in
-    sym (ap (anySet (a .bits .now) (a .a)) (sym e) ∙ l .inv .1)
+    let a = c.args in
+    let l = c.loop-seen in
+    let e : l.seen ≡ run_length a.a a.b = omega arith in
+    sym (ap (any_set a.bits.now a.a) (sym e) ∙ l.invariant.1)
 
-pub any-set-spec : {M : Type 1} → statement M
-any-set-spec =
-    tie.close
+pub any_set_spec : {M : Type 1} → statement M
+any_set_spec = tie.close
     (tie.spec
-    Inv-loop
-    μ-loop
+    invariant-loop
+    decreases-loop
     reach-requires
     loop-holds
     add-i

@@ -1,19 +1,19 @@
 -- `bitmap::runs::reach` meets its contract. Assumes nothing.
 use native.Mathlib.Omega.{arith}
-use Rattle·bitmap·proofs.proofs.runs.reach.Statement.{statement}
-use Rattle·bitmap·proofs.proofs.runs.reach.Tie as tie
+use Rattle.bitmap.proofs.runs.reach.Statement.{statement}
+use Rattle.bitmap.proofs.runs.reach.Tie as tie
 
-sub-above : tie.Need-sub-above
+sub-above : tie.Need-overflow_sub-above
 sub-above c = omega arith
 
-add-result : tie.Need-add-result
+add-result : tie.Need-overflow_add-result
 add-result c = omega arith
 
-returns : tie.Need-returns
+returns : tie.Need-returns-then-b-above
 returns c = omega arith
 
-returns-2 : tie.Need-returns-2
+returns-2 : tie.Need-returns-else-b-above
 returns-2 c = omega arith
 
-pub reach-spec : {M : Type 1} → statement M
-reach-spec = tie.close (tie.spec sub-above add-result returns returns-2)
+pub reach_spec : {M : Type 1} → statement M
+reach_spec = tie.close (tie.spec sub-above add-result returns returns-2)

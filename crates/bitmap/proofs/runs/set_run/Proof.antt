@@ -1,91 +1,90 @@
 -- `bitmap::runs::set_run` meets its contract. The loop's invariant: as many bits from a on as are done are set.
 -- Assumes nothing.
-use mathlib.Core.Path.{_≡_, refl, sym, ap, _∙_}
+use mathlib.Core.Path.{◌≡◌, refl, sym, ap, ◌∙◌}
 use mathlib.Core.List.{List}
-use Prim.Native.Nat.{ℕ, _+_, _-_, _≤_}
+use Prim.Native.Nat.{ℕ, ◌+◌, ◌-◌, ◌≤◌}
 use native.Mathlib.Numerals.{add-one}
-use borrow.Author.Needs.{needs}
+use borrow.Author.Rules.{rules}
 use native.Mathlib.Omega.{arith}
 use lib.ListN.{length}
-use Rattle·bitmap·specs.specs.Bitmap.{bitPut, putRun, runLength}
-use Rattle·bitmap·proofs.proofs.Ranges.{run-length, run-past}
-use Rattle·bitmap·proofs.proofs.runs.set_run.Statement.{statement}
-use Rattle·bitmap·proofs.proofs.runs.set_run.Tie as tie
+use Rattle.bitmap.specs.Bitmap.{bit_put, put_run, run_length}
+use Rattle.bitmap.proofs.Ranges.{run-length, run_past}
+use Rattle.bitmap.proofs.runs.set_run.Statement.{statement}
+use Rattle.bitmap.proofs.runs.set_run.Tie as tie
 
-abbrev Inv-loop : tie.InvT-loop
-Inv-loop bits₀ a b m done₀ bits done = (done ≤ m) × (bits ≡ putRun bits₀ a done 1)
+abbrev invariant-loop : tie.invariant-loop-done
+invariant-loop bits₀ a b m done₀ bits done = (done ≤ m) × (bits ≡ put_run bits₀ a done 1)
 
-abbrev μ-loop : tie.MeasureT-loop
-μ-loop bits₀ a b m done₀ bits done = m - done
+abbrev decreases-loop : tie.decreases-loop-done
+decreases-loop bits₀ a b m done₀ bits done = m - done
 
-reach-requires : tie.Need-reach-requires Inv-loop μ-loop
-reach-requires c κs = search needs
+reach-requires : tie.Need-reach-m-requires invariant-loop decreases-loop
+reach-requires c κs = search rules
 
-loop-holds : tie.Need-loop-holds Inv-loop μ-loop
-unfolding putRun
-loop-holds c = (search needs, refl)
+loop-holds : tie.Need-loop-done-init invariant-loop decreases-loop
+unfolding put_run
+loop-holds c = (search rules, refl)
 
 -- the run so far keeps the length
-long : (c : tie.At-loop Inv-loop μ-loop) → length (c .loop .bits) ≡ length (c .before .before .before .args .bits .now)
+long : (c : tie.At-loop-done invariant-loop decreases-loop) → length c.loop-done.bits ≡ length c.args.bits.now
 long c =
-    let a = c .before .before .before .args in
-    ap length (c .loop .inv .1) ∙ run-length (a .bits .now) (a .a) (c .loop .done) 1
+    let a = c.args in
+    ap length c.loop-done.invariant.1 ∙ run-length a.bits.now a.a c.loop-done.done 1
 
-add-i : tie.Need-add-i Inv-loop μ-loop
-add-i c = search needs
+add-i : tie.Need-overflow_add-i invariant-loop decreases-loop
+add-i c = search rules
 
-same-length : tie.Need-same-length Inv-loop μ-loop
-same-length c = long (c .before .before)
+same_length : tie.Need-shape_of-bits-then-bits-i invariant-loop decreases-loop
+same_length c = long c.before.before
 
-returns : tie.Need-returns Inv-loop μ-loop
+returns : tie.Need-returns-then-bits-i invariant-loop decreases-loop
 returns c =
-    let a = c .before .before .before .before .before .args in
-    let l = c .before .before .loop in
-    l .inv .1
-    ∙ sym (run-past (a .bits .now) (a .a) (l .done) (runLength (a .a) (a .b)) 1 (omega arith) (omega (arith, long (c .before .before))))
+    let a = c.args in
+    let l = c.loop-done in
+    l.invariant.1
+    ∙ sym (run_past a.bits.now a.a l.done (run_length a.a a.b) 1 (omega arith) (omega (arith, long c.before.before)))
 
-set-requires : tie.Need-set-requires Inv-loop μ-loop
-set-requires c κs = search needs
+set-requires : tie.Need-set-requires invariant-loop decreases-loop
+set-requires c κs = search rules
 
-add-done : tie.Need-add-done Inv-loop μ-loop
-add-done c = search needs
+add_done : tie.Need-overflow_add-done invariant-loop decreases-loop
+add_done c = search rules
 
-loop-less : tie.Need-loop-less Inv-loop μ-loop
-loop-less c = search needs
+loop-less : tie.Need-loop-done-smaller invariant-loop decreases-loop
+loop-less c = search rules
 
-loop-again : tie.Need-loop-again Inv-loop μ-loop
-unfolding putRun
+loop-again : tie.Need-loop-done-preserved invariant-loop decreases-loop
+unfolding put_run
 loop-again c =
-    let a = c .before .before .before .before .before .before .before .before .before .args in
-    let l = c .before .before .before .before .before .before .loop in (
-      search needs,
-      c .before .before .set .ensures ∙ ap (λ (x : List ℕ). bitPut x (a .a + l .done) 1) (l .inv .1)
-          ∙ ap (λ (n : ℕ). putRun (a .bits .now) (a .a) n 1) (sym (add-one (l .done))),
+    let a = c.args in
+    let l = c.loop-done in (
+      search rules,
+      c.set.ensures ∙ ap (λ (x : List ℕ). bit_put x (a.a + l.done) 1) l.invariant.1
+          ∙ ap (λ (n : ℕ). put_run a.bits.now a.a n 1) (sym (add-one l.done)),
     )
 
-same-length-2 : tie.Need-same-length-2 Inv-loop μ-loop
-same-length-2 c = long (c .before)
+same-length-2 : tie.Need-shape_of-bits invariant-loop decreases-loop
+same-length-2 c = long c.before
 
-returns-2 : tie.Need-returns-2 Inv-loop μ-loop
+returns-2 : tie.Need-returns invariant-loop decreases-loop
 returns-2 c =
-    let a = c .before .before .before .before .args in
-    let l = c .before .loop in
-    let e : l .done ≡ runLength (a .a) (a .b) = omega arith in
-    l .inv .1 ∙ ap (λ (n : ℕ). putRun (a .bits .now) (a .a) n 1) e
+    let a = c.args in
+    let l = c.loop-done in
+    let e : l.done ≡ run_length a.a a.b = omega arith in
+    l.invariant.1 ∙ ap (λ (n : ℕ). put_run a.bits.now a.a n 1) e
 
-pub set-run-spec : {M : Type 1} → statement M
-set-run-spec =
-    tie.close
+pub set_run_spec : {M : Type 1} → statement M
+set_run_spec = tie.close
     (tie.spec
-    Inv-loop
-    μ-loop
+    invariant-loop
+    decreases-loop
     reach-requires
     loop-holds
     add-i
-    same-length
+    same_length
     returns
     set-requires
-    add-done
+    add_done
     loop-less
     loop-again
     same-length-2

@@ -1,78 +1,78 @@
 -- `machine::moves::make_move` meets its contract. Assumes nothing.
-use mathlib.Core.Path.{refl, _∙_}
-use borrow.Author.Needs.{needs}
+use mathlib.Core.Path.{refl, ◌∙◌}
+use borrow.Author.Rules.{rules}
 use borrow.Author.Tests.{le-ltb, lt-ltb}
 use native.Mathlib.Omega.{arith}
-use Rattle·answers.proofs.Rows.{by-not}
-use Rattle·machine·specs.specs.Config.{config, rulesB}
-use Rattle·machine·proofs.proofs.GuardArms.{came-by}
-use Rattle·machine·proofs.proofs.RequestArms.{worker-inside}
-use Rattle·machine·proofs.proofs.MoveArms.{move-is}
-use Rattle·machine·proofs.proofs.moves.make_move.Statement.{statement}
-use Rattle·machine·proofs.proofs.moves.make_move.Tie as tie
+use Rattle.answers.proofs.Rows.{by-not}
+use Rattle.machine.specs.Config.{config, rules_b}
+use Rattle.machine.proofs.GuardArms.{came-by}
+use Rattle.machine.proofs.RequestArms.{worker-inside}
+use Rattle.machine.proofs.MoveArms.{move-is}
+use Rattle.machine.proofs.moves.make_move.Statement.{statement}
+use Rattle.machine.proofs.moves.make_move.Tie as tie
 
 rules-requires : tie.Need-rules-requires
-rules-requires c κs = search needs
+rules-requires c κs = search rules
 
 refuse-requires : tie.Need-refuse-requires
-refuse-requires c κs = search needs
+refuse-requires c κs = search rules
 
 returns : tie.Need-returns
-unfolding rulesB
+unfolding rules_b
 returns c =
-    let x = c .before .before .before .before .before .args in
-    came-by (c .refuse .ensures)
-    ∙ move-is (config (x .t1) (x .page .now) (x .bits .now)) (x .worker) (x .flag) (by-not (c .before .before .rules .ensures) (c .before .if1 .taken)) refl refl
+    let x = c.before.before.before.before.before.args in
+    came-by c.refuse.ensures
+    ∙ move-is (config x.t1 x.page.now x.bits.now) x.worker x.flag (by-not c.before.before.rules.ensures c.before.if1.true) refl refl
 
 refuse-requires-2 : tie.Need-refuse-requires-2
-refuse-requires-2 c κs = search needs
+refuse-requires-2 c κs = search rules
 
 returns-2 : tie.Need-returns-2
-unfolding rulesB
+unfolding rules_b
 returns-2 c =
-    let x = c .before .before .before .before .before .before .args in
-    came-by (c .refuse2 .ensures)
-    ∙ move-is (config (x .t1) (x .page .now) (x .bits .now)) (x .worker) (x .flag) (by-not (c .before .before .before .rules .ensures) (c .before .before .if1 .left))
-    (le-ltb _ _ (c .before .if2 .taken)) refl
+    let x = c.before.before.before.before.before.before.args in
+    came-by c.refuse2.ensures
+    ∙ move-is (config x.t1 x.page.now x.bits.now) x.worker x.flag (by-not c.before.before.before.rules.ensures c.before.before.if1.false)
+    (le-ltb _ _ c.before.if2.true) refl
 
-mul-k : tie.Need-mul-k
-unfolding rulesB
+mul-k : tie.Need-overflow-mul-k
+unfolding rules_b
 mul-k c =
-    let x = c .before .before .before .before .before .args in
-    let h = worker-inside (config (x .t1) (x .page .now) (x .bits .now)) (x .worker) (by-not (c .before .before .rules .ensures) (c .before .if1 .left)) (c .if2 .left) in
+    let x = c.before.before.before.before.before.args in
+    let h = worker-inside (config x.t1 x.page.now x.bits.now) x.worker (by-not c.before.before.rules.ensures c.before.if1.false) c.if2.false in
     omega arith
 
 element-copy-out-k : tie.Need-element-copy-out-k
-unfolding rulesB
+unfolding rules_b
 element-copy-out-k c =
-    let x = c .before .before .before .before .before .args in
-    worker-inside (config (x .t1) (x .page .now) (x .bits .now)) (x .worker) (by-not (c .before .before .rules .ensures) (c .before .if1 .left)) (c .if2 .left)
+    let x = c.before.before.before.before.before.args in
+    worker-inside (config x.t1 x.page.now x.bits.now) x.worker (by-not c.before.before.rules.ensures c.before.if1.false) c.if2.false
 
 make-requires : tie.Need-make-requires
-make-requires c κs = search needs
+make-requires c κs = search rules
 
-mul-after : tie.Need-mul-after
-unfolding rulesB
+mul-after : tie.Need-overflow-mul-after
+unfolding rules_b
 mul-after c =
-    let x = c .before .before .before .before .before .before .before .before .before .before .before .args in
-    let h = worker-inside (config (x .t1) (x .page .now) (x .bits .now)) (x .worker) (by-not (c .before .before .before .before .before .before .before .before .rules .ensures) (c .before .before .before .before .before .before .before .if1 .left)) (c .before .before .before .before .before .before .if2 .left) in
+    let x = c.before.before.before.before.before.before.before.before.before.before.before.args in
+    let h = worker-inside (config x.t1 x.page.now x.bits.now) x.worker (by-not c.before.before.before.before.before.before.before.before.rules.ensures c.before.before.before.before.before.before.before.if1.false) c.before.before.before.before.before.before.if2.false in
     omega arith
 
 element-set-from-after : tie.Need-element-set-from-after
-unfolding rulesB
+unfolding rules_b
 element-set-from-after c =
-    let x = c .before .before .before .before .before .before .before .before .before .before .before .args in
-    worker-inside (config (x .t1) (x .page .now) (x .bits .now)) (x .worker) (by-not (c .before .before .before .before .before .before .before .before .rules .ensures) (c .before .before .before .before .before .before .before .if1 .left)) (c .before .before .before .before .before .before .if2 .left)
+    let x = c.before.before.before.before.before.before.before.before.before.before.before.args in
+    worker-inside (config x.t1 x.page.now x.bits.now) x.worker (by-not c.before.before.before.before.before.before.before.before.rules.ensures c.before.before.before.before.before.before.before.if1.false) c.before.before.before.before.before.before.if2.false
 
-same-length : tie.Need-same-length
-same-length c = search needs
+same_length : tie.Need-same-length
+same_length c = search rules
 
 returns-3 : tie.Need-returns-3
-unfolding rulesB
+unfolding rules_b
 returns-3 c =
-    let x = c .before .before .before .before .before .before .before .before .before .before .before .args in
-    move-is (config (x .t1) (x .page .now) (x .bits .now)) (x .worker) (x .flag) (by-not (c .before .before .before .before .before .before .before .before .rules .ensures) (c .before .before .before .before .before .before .before .if1 .left))
-    (lt-ltb _ _ (c .before .before .before .before .before .before .if2 .left)) (c .before .before .before .make .ensures)
+    let x = c.before.before.before.before.before.before.before.before.before.before.before.args in
+    move-is (config x.t1 x.page.now x.bits.now) x.worker x.flag (by-not c.before.before.before.before.before.before.before.before.rules.ensures c.before.before.before.before.before.before.before.if1.false)
+    (lt-ltb _ _ c.before.before.before.before.before.before.if2.false) c.before.before.before.make.ensures
 
 pub make-move-spec : {M : Type 1} → statement M
 make-move-spec =
@@ -88,5 +88,5 @@ make-move-spec =
     make-requires
     mul-after
     element-set-from-after
-    same-length
+    same_length
     returns-3)

@@ -1,42 +1,42 @@
 -- `machine::toggle::toggle_off` meets its contract. Assumes nothing.
-use mathlib.Core.Path.{refl, _∙_}
-use borrow.Author.Needs.{needs}
-use borrow.Author.Tests.{eq-eqb, ne-eqb}
-use Rattle·answers.proofs.Rows.{by-not}
-use Rattle·machine·proofs.proofs.ToggleArms.{off-is}
-use Rattle·machine·proofs.proofs.toggle.toggle_off.Statement.{statement}
-use Rattle·machine·proofs.proofs.toggle.toggle_off.Tie as tie
+use mathlib.Core.Path.{refl, ◌∙◌}
+use borrow.Author.Rules.{rules}
+use borrow.Author.Tests.{eq-eqb, ne_eqb}
+use Rattle.answers.proofs.Rows.{by-not}
+use Rattle.machine.proofs.ToggleArms.{off-is}
+use Rattle.machine.proofs.toggle.toggle_off.Statement.{statement}
+use Rattle.machine.proofs.toggle.toggle_off.Tie as tie
 
 refuse-requires : tie.Need-refuse-requires
-refuse-requires c κs = search needs
+refuse-requires c κs = search rules
 
 returns : tie.Need-returns
-returns c = c .refuse .ensures ∙ off-is _ _ _ (c .before .if1 .taken) refl refl refl refl
+returns c = c.refuse.ensures ∙ off-is _ _ _ c.before.if1.true refl refl refl refl
 
 refuse-requires-2 : tie.Need-refuse-requires-2
-refuse-requires-2 c κs = search needs
+refuse-requires-2 c κs = search rules
 
 returns-2 : tie.Need-returns-2
 returns-2 c =
-    c .refuse2 .ensures ∙ off-is _ _ _ (c .before .before .if1 .left) (by-not refl (c .before .if2 .taken)) refl refl refl
+    c.refuse2.ensures ∙ off-is _ _ _ c.before.before.if1.false (by-not refl c.before.if2.true) refl refl refl
 
 masked-ptr-delay-get-ptr-requires : tie.Need-masked-ptr-delay-get-ptr-requires
-masked-ptr-delay-get-ptr-requires c κs = search needs
+masked-ptr-delay-get-ptr-requires c κs = search rules
 
 refuse-requires-3 : tie.Need-refuse-requires-3
-refuse-requires-3 c κs = search needs
+refuse-requires-3 c κs = search rules
 
 returns-3 : tie.Need-returns-3
 returns-3 c =
-    c .refuse3 .ensures
-    ∙ off-is _ _ _ (c .before .before .before .before .if1 .left) (by-not refl (c .before .before .before .if2 .left)) (c .before .before .masked-ptr-delay-get-ptr .ensures) (ne-eqb _ _ (c .before .if3 .taken)) refl
+    c.refuse3.ensures
+    ∙ off-is _ _ _ c.before.before.before.before.if1.false (by-not refl c.before.before.before.if2.false) c.before.before.masked-ptr-delay-get-ptr.ensures (ne_eqb _ _ c.before.if3.true) refl
 
 masked-ptr-delay-get-delay-requires : tie.Need-masked-ptr-delay-get-delay-requires
-masked-ptr-delay-get-delay-requires c κs = search needs
+masked-ptr-delay-get-delay-requires c κs = search rules
 
 returns-4 : tie.Need-returns-4
 returns-4 c =
-    off-is (c .before .before .before .before .before .args .busy) (c .before .before .before .before .before .args .tagged) (c .before .before .before .before .before .args .on) (c .before .before .before .before .if1 .left) (by-not refl (c .before .before .before .if2 .left)) (c .before .before .masked-ptr-delay-get-ptr .ensures) (eq-eqb _ _ (c .before .if3 .left)) (c .masked-ptr-delay-get-delay .ensures)
+    off-is c.before.before.before.before.before.args.busy c.before.before.before.before.before.args.tagged c.before.before.before.before.before.args.on c.before.before.before.before.if1.false (by-not refl c.before.before.before.if2.false) c.before.before.masked-ptr-delay-get-ptr.ensures (eq-eqb _ _ c.before.if3.false) c.masked-ptr-delay-get-delay.ensures
 
 pub toggle-off-spec : {M : Type 1} → statement M
 toggle-off-spec =

@@ -1,23 +1,23 @@
 -- `staged::damage::tag_on_shared` meets its contract. Assumes nothing.
-use borrow.Author.Needs.{needs}
-use Rattle·answers.proofs.Rows.{by}
-use Rattle·staged·specs.specs.Damage.{tagOnShared}
-use Rattle·staged·proofs.proofs.damage.tag_on_shared.Statement.{statement}
-use Rattle·staged·proofs.proofs.damage.tag_on_shared.Tie as tie
+use borrow.Author.Rules.{rules}
+use Rattle.answers.proofs.Rows.{by}
+use Rattle.staged.specs.Damage.{tag_on_shared}
+use Rattle.staged.proofs.damage.tag_on_shared.Statement.{statement}
+use Rattle.staged.proofs.damage.tag_on_shared.Tie as tie
 
 on-shared-requires : tie.Need-on-shared-requires
-on-shared-requires c κs = search needs
+on-shared-requires c κs = search rules
 
 masked-ptr-delay-get-delay-requires : tie.Need-masked-ptr-delay-get-delay-requires
-masked-ptr-delay-get-delay-requires c κs = search needs
+masked-ptr-delay-get-delay-requires c κs = search rules
 
 returns : tie.Need-returns
-unfolding tagOnShared
-returns c = simp (by (c .before .before .on-shared .ensures) (c .before .if1 .taken), c .masked-ptr-delay-get-delay .ensures)
+unfolding tag_on_shared
+returns c = simp (by c.before.before.on-shared.ensures c.before.if1.true, c.masked-ptr-delay-get-delay.ensures)
 
 returns-2 : tie.Need-returns-2
-unfolding tagOnShared
-returns-2 c = simp (c .if1 .left, by (c .before .on-shared .ensures) (c .if1 .left))
+unfolding tag_on_shared
+returns-2 c = simp (c.if1.false, by c.before.on-shared.ensures c.if1.false)
 
 pub tag-on-shared-spec : {M : Type 1} → statement M
 tag-on-shared-spec =

@@ -1,15 +1,15 @@
 -- `staged::stages::fails` meets its contract. Assumes nothing.
-use Rattle·staged·specs.specs.Moves.{failsB}
-use Rattle·staged·proofs.proofs.stages.fails.Statement.{statement}
-use Rattle·staged·proofs.proofs.stages.fails.Tie as tie
+use Rattle.staged.specs.Moves.{fails_b}
+use Rattle.staged.proofs.stages.fails.Statement.{statement}
+use Rattle.staged.proofs.stages.fails.Tie as tie
 
 returns : tie.Need-returns
-unfolding failsB
-returns c = simp (c .if1 .taken)
+unfolding fails_b
+returns c = simp c.if1.true
 
 returns-2 : tie.Need-returns-2
-unfolding failsB
-returns-2 c = simp (c .if1 .left)
+unfolding fails_b
+returns-2 c = simp c.if1.false
 
 pub fails-spec : {M : Type 1} → statement M
 fails-spec = tie.close (tie.spec returns returns-2)

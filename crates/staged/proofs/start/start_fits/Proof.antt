@@ -1,34 +1,34 @@
 -- `staged::start::start_fits` meets its contract. Assumes nothing.
-use mathlib.Core.Path.{_∙_}
-use borrow.Author.Needs.{needs}
-use borrow.Author.Tests.{eq-eqb, ne-eqb}
-use Rattle·answers.proofs.Rows.{by}
-use Rattle·staged·specs.specs.Start.{startFitsB}
-use Rattle·staged·proofs.proofs.start.start_fits.Statement.{statement}
-use Rattle·staged·proofs.proofs.start.start_fits.Tie as tie
+use mathlib.Core.Path.{◌∙◌}
+use borrow.Author.Rules.{rules}
+use borrow.Author.Tests.{eq-eqb, ne_eqb}
+use Rattle.answers.proofs.Rows.{by}
+use Rattle.staged.specs.Start.{start_fits_b}
+use Rattle.staged.proofs.start.start_fits.Statement.{statement}
+use Rattle.staged.proofs.start.start_fits.Tie as tie
 
 pushes-requires : tie.Need-pushes-requires
-pushes-requires c κs = search needs
+pushes-requires c κs = search rules
 
 is-block-requires : tie.Need-is-block-requires
-is-block-requires c κs = search needs
+is-block-requires c κs = search rules
 
 returns : tie.Need-returns
-unfolding startFitsB
-returns c = c .is-block .ensures ∙ simp (by (c .before .before .pushes .ensures) (c .before .if1 .taken))
+unfolding start_fits_b
+returns c = c.is_Block.ensures ∙ simp (by c.before.before.pushes.ensures c.before.if1.true)
 
 returns-2 : tie.Need-returns-2
-unfolding startFitsB
-returns-2 c = simp (by (c .before .before .pushes .ensures) (c .before .if1 .left), eq-eqb _ _ (c .if2 .taken))
+unfolding start_fits_b
+returns-2 c = simp (by c.before.before.pushes.ensures c.before.if1.false, eq-eqb _ _ c.if2.true)
 
 is-staged-requires : tie.Need-is-staged-requires
-is-staged-requires c κs = search needs
+is-staged-requires c κs = search rules
 
 returns-3 : tie.Need-returns-3
-unfolding startFitsB
+unfolding start_fits_b
 returns-3 c =
-    c .is-staged .ensures
-    ∙ simp (by (c .before .before .before .pushes .ensures) (c .before .before .if1 .left), ne-eqb _ _ (c .before .if2 .left))
+    c.is-staged.ensures
+    ∙ simp (by c.before.before.before.pushes.ensures c.before.before.if1.false, ne_eqb _ _ c.before.if2.false)
 
 pub start-fits-spec : {M : Type 1} → statement M
 start-fits-spec =

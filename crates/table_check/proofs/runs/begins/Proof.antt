@@ -1,69 +1,69 @@
 -- `table_check::runs::begins` meets its contract: a word that differs, or words that are too few, rule the equation
 -- out. Assumes nothing.
-use Prim.Native.Nat.{ℕ, _≤_, _<_, _-_}
-use mathlib.Core.Path.{_≡_, refl, sym}
+use Prim.Native.Nat.{ℕ, ◌≤◌, ◌<◌, ◌-◌}
+use mathlib.Core.Path.{◌≡◌, refl, sym}
 use mathlib.Core.Bool.{true≢false}
-use borrow.Author.Count.{below-more}
+use borrow.Author.Count.{below_more}
 use native.Mathlib.Omega.{arith}
-use lib.ListN.{length, getD}
-use Rattle·table_check·proofs.proofs.Running.{begins-so, too-few, differs}
-use Rattle·table_check·proofs.proofs.runs.begins.Statement.{statement}
-use Rattle·table_check·proofs.proofs.runs.begins.Tie as tie
+use lib.ListN.{length, get_or}
+use Rattle.table_check.proofs.Running.{begins-so, too_few, differs}
+use Rattle.table_check.proofs.runs.begins.Statement.{statement}
+use Rattle.table_check.proofs.runs.begins.Tie as tie
 
-abbrev Inv-loop : tie.InvT-loop
-Inv-loop words expected i₀ i =
-    (i ≤ length expected) × (length expected ≤ length words) × ((k : ℕ) → k < i → getD words k 0 ≡ getD expected k 0)
+abbrev invariant-loop : tie.invariant-loop
+invariant-loop words expected i₀ i =
+    (i ≤ length expected) × (length expected ≤ length words) × ((k : ℕ) → k < i → get_or words k 0 ≡ get_or expected k 0)
 
-abbrev μ-loop : tie.MeasureT-loop
-μ-loop words expected i₀ i = length expected - i
+abbrev decreases-loop : tie.decreases-loop
+decreases-loop words expected i₀ i = length expected - i
 
-returns : tie.Need-returns Inv-loop μ-loop
+returns : tie.Need-returns invariant-loop decreases-loop
 returns c =
-    (λ f. absurd (true≢false (sym f)), λ e. absurd (too-few (c .before .args .words .now) (c .before .args .expected .now) (omega arith) e))
+    (λ f. absurd (true≢false (sym f)), λ e. absurd (too_few c.before.args.words.now c.before.args.expected.now (omega arith) e))
 
-loop-holds : tie.Need-loop-holds Inv-loop μ-loop
+loop-holds : tie.Need-loop-init invariant-loop decreases-loop
 loop-holds c = (omega arith, omega arith, λ k l. absurd (omega arith))
 
-mul-if2 : tie.Need-mul-if2 Inv-loop μ-loop
+mul-if2 : tie.Need-overflow-mul-if2 invariant-loop decreases-loop
 mul-if2 c = omega arith
 
-shared-slice-read-if2 : tie.Need-shared-slice-read-if2 Inv-loop μ-loop
+shared-slice-read-if2 : tie.Need-shared-slice-read-if2 invariant-loop decreases-loop
 shared-slice-read-if2 c = omega arith
 
-shared-slice-read-if2-2 : tie.Need-shared-slice-read-if2-2 Inv-loop μ-loop
+shared-slice-read-if2-2 : tie.Need-shared-slice-read-if2-2 invariant-loop decreases-loop
 shared-slice-read-if2-2 c = omega arith
 
-cast-if2 : tie.Need-cast-if2 Inv-loop μ-loop
-cast-if2 c = omega (arith, c .shared-slice-known2 .given (c .before .before .before .loop .i))
+cast-if2 : tie.Need-overflow-cast-if2 invariant-loop decreases-loop
+cast-if2 c = omega (arith, c.shared-slice-known2.given c.before.before.before.loop.i)
 
-returns-2 : tie.Need-returns-2 Inv-loop μ-loop
+returns-2 : tie.Need-returns-2 invariant-loop decreases-loop
 returns-2 c =
-    let a = c .before .before .before .before .before .before .args in
-    (λ f. absurd (true≢false (sym f)), λ e. absurd (omega (arith, c .if2 .taken, differs (a .words .now) (a .expected .now) (c .before .before .before .before .loop .i) (omega arith) e)))
+    let a = c.before.before.before.before.before.before.args in
+    (λ f. absurd (true≢false (sym f)), λ e. absurd (omega (arith, c.if2.true, differs a.words.now a.expected.now c.before.before.before.before.loop.i (omega arith) e)))
 
-add-i : tie.Need-add-i Inv-loop μ-loop
+add-i : tie.Need-overflow-add-i invariant-loop decreases-loop
 add-i c = omega arith
 
-loop-less : tie.Need-loop-less Inv-loop μ-loop
+loop-less : tie.Need-loop-smaller invariant-loop decreases-loop
 loop-less c = omega arith
 
-loop-again : tie.Need-loop-again Inv-loop μ-loop
+loop-again : tie.Need-loop-preserved invariant-loop decreases-loop
 loop-again c =
-    let l = c .before .before .before .before .loop in
-    (omega arith, l .inv .1, below-more _ _ (l .inv .2) (c .if2 .left))
+    let l = c.before.before.before.before.loop in
+    (omega arith, l.invariant.1, below_more _ _ l.invariant.2 c.if2.false)
 
-returns-3 : tie.Need-returns-3 Inv-loop μ-loop
+returns-3 : tie.Need-returns-3 invariant-loop decreases-loop
 returns-3 c =
-    let a = c .before .before .before .args in
-    let l = c .before .loop in
-    (λ f. begins-so (a .words .now) (a .expected .now) (l .inv .1) (λ i m. l .inv .2 i (omega arith)), λ e. refl)
+    let a = c.before.before.before.args in
+    let l = c.before.loop in
+    (λ f. begins-so a.words.now a.expected.now l.invariant.1 (λ i m. l.invariant.2 i (omega arith)), λ e. refl)
 
 pub begins-spec : {M : Type 1} → statement M
 begins-spec =
     tie.close
     (tie.spec
-    Inv-loop
-    μ-loop
+    invariant-loop
+    decreases-loop
     returns
     loop-holds
     mul-if2
