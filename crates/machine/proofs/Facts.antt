@@ -17,10 +17,10 @@ use Rattle.page.proofs.Rules.{rules-facts, rules-test, workers-facts, workers-te
 use Rattle.page.proofs.Running.{run_sound}
 use Rattle.page.proofs.Heads.{sound-is, walk-ends}
 use Rattle.operations.specs.declared.Worker.{Worker}
-use Rattle.operations.specs.Operations.{staged_b, pushes_b, busy_b}
+use Rattle.operations.specs.Operations.{staged_b, pushes_b}
 use Rattle.operations.proofs.Tells.{Tells, told-both, tells_both, tells-never, tells_as, tells-eq, tells_none, tells-and, tells-or}
 use Rattle.operations.specs.Numbered.{Pushes}
-use Rattle.operations.proofs.Numbered.{tells-pushes}
+use Rattle.operations.proofs.Numbered.{tells-pushes, tells-busy}
 use Rattle.staged.specs.Start.{start_fits_b}
 use Rattle.machine.specs.Config.{Config, worker_of, lent_of, blank, rules_b}
 use Rattle.machine.specs.Table.{arguments_fit_b, any_named, own_unsound, link_unsound, walk_broken, tests_of, any_busy}
@@ -235,9 +235,6 @@ pub damage-at-request : DamageAtRequest
 damage-at-request c w code a b r = told-both (tells-damage c w r code a b)
 
 -- ---- a worker under way
-
-pub tells-busy : (k : Worker) → Tells (busy_b k) (k.operation ≢ 0)
-tells-busy k = tells_none (tells-eq k.operation 0)
 
 -- one of the first m
 abbrev pub SomeBusy : List Worker → ℕ → Type 0

@@ -4,7 +4,7 @@ use Prim.Native.Nat.{ℕ, ◌-◌, ◌%◌, ◌≤◌, ◌<◌}
 use mathlib.Core.Path.{◌≡◌, refl, sym, ap, subst, ◌∙◌}
 use mathlib.Core.Logic.{◌≢◌, ◌⊎◌, inl, inr, ⊎_elim}
 use mathlib.Core.Bool.{Bool, true, false, not, ◌&&◌}
-use native.Mathlib.Decide.{dec_le, ℕ_discrete}
+use native.Mathlib.Decide.{dec_le}
 use native.Mathlib.Omega.{arith}
 use lib.Dec.{ltb, eqb}
 use borrow.Author.Tests.{eqb-true, eq-eqb}
@@ -14,10 +14,9 @@ use Rattle.answers.proofs.Rows.{first-at, unless-done}
 use Rattle.answers.proofs.Smallest.{smallest-first, given_by, numbered-by}
 use Rattle.page.specs.Page.{listed_b}
 use Rattle.words.specs.Tagged.{tag_of, address_of}
-use Rattle.operations.specs.declared.Worker.{Worker}
-use Rattle.operations.specs.Operations.{on_tagged_b, takes_b, staged_b, busy_b}
+use Rattle.operations.specs.Operations.{on_tagged_b, takes_b, staged_b}
 use Rattle.operations.proofs.Tells.{Tells, tells-not, tells-off, tells_as, tells-eq, tells-lt, tells_none, tells-and}
-use Rattle.operations.proofs.Numbered.{tells-staged, tells-takes, tells-tagged}
+use Rattle.operations.proofs.Numbered.{tells-staged, tells-takes, tells-tagged, tells-busy, tells-idle}
 use Rattle.staged.specs.Start.{start_act}
 use Rattle.staged.specs.Moves.{move_act}
 use Rattle.staged.proofs.Damaged.{tells-damaged}
@@ -30,7 +29,7 @@ use Rattle.machine.specs.Total.{request_rows, move_rows, on_rows, off_rows}
 use Rattle.machine.specs.Facts.{RulesFact}
 use Rattle.machine.specs.Reasons.{RequestApplies, request_rules, request_worker, request_unfit, request_busy, request_off, request_full, request_listed, request_empty, request_damaged, MoveApplies, move_rules, move_worker, move_idle, move_damaged, OnApplies, on_rules, on_twice, OffApplies, off_rules, off_busy, off_twice, off_listed, RequestNumbers, MovesNumbered, OnNumbers, OffNumbers}
 use Rattle.machine.proofs.AskArms.{below-staged, above-staged}
-use Rattle.machine.proofs.Facts.{tells-rules, tells-fits, tells-named, tells-damage, tells-busy, tells-any}
+use Rattle.machine.proofs.Facts.{tells-rules, tells-fits, tells-named, tells-damage, tells-any}
 use Rattle.machine.proofs.Totals.{at-once-done, request-act-small, move-act-small}
 
 -- ---- a page that breaks the rules
@@ -58,17 +57,6 @@ tells-none-such w workers = tells_as (tells_none (tells-lt w workers)) to (λ l 
         go : Dec (workers ≤ w) → workers ≤ w
         go (yes l) = l
         go (no n) = absurd (f (omega arith))
-
--- no operation under way
-tells-idle : (k : Worker) → Tells (not (busy_b k)) (k.operation ≡ 0)
-tells-idle k = tells_as (tells_none (tells-busy k)) to (λ e f. f e)
-  where
-    to : (k.operation ≢ 0 → ⊥) → k.operation ≡ 0
-    to f = go (ℕ_discrete k.operation 0)
-      where
-        go : Dec (k.operation ≡ 0) → k.operation ≡ 0
-        go (yes e) = e
-        go (no n) = absurd (f n)
 
 module _ (c : Config) (w code a b : ℕ) where
   abbrev pub Why : ℕ → Type 0
