@@ -17,6 +17,7 @@ use Rattle.page.specs.Walk.{Walk, ended, broken, then, walk_from, walk_of, last_
 use Rattle.page.specs.Sequences.{times, Each, Once, Apart, Chain, head_of, laid, Listed, Runs, OthersStay, OthersRun}
 use Rattle.page.proofs.Rules.{block-address, address-place, address-some, place-apart, place_inside, sound-zero, sound-facts, sound-test}
 use Rattle.page.proofs.Steps.{walked}
+use Rattle.std.proofs.Common.{Option, Some, None}
 use Rattle.page.proofs.Counting.{times-append, each-head, each_tail, each-cons, each_append, last-in, length-le}
 use Rattle.page.proofs.Chains.{Places, chain-agree, chain-one, chain-once, chain-laid, chain-append, laid-other}
 
@@ -148,24 +149,35 @@ run-last c h (i ∷ xs) x = (x.listed (last_of i xs) (last-in i xs)).high
 
 -- ---- what is told of a walk
 
-module _ (w : Walk) {m : Walked} (e : m ≡ tally 0 0 w) where
-  -- whether it came to 0
-  pub told-ends : m.sound ≡ w.ends
+-- of one that did not come to 0, nothing
+pub told-none : (w : Walk) → None ≡ tally 0 0 w → w.ends ≡ false
+unfolding tally
+told-none w e = go w.ends e
+  where
+    go : (b : Bool) → None ≡ cond b (walked (0 + length w.blocks) (last_of 0 w.blocks)) None → b ≡ false
+    go true e = cc
+    go false e = refl
+
+module _ (w : Walk) {m : Walked} (e : Some m ≡ tally 0 0 w) where
+  -- where something is told, it came to 0
+  pub told-ends : w.ends ≡ true
   unfolding tally
-  told-ends = ap (λ (x : Walked). x.sound) e ∙ go w.ends
+  told-ends = go w.ends e
     where
-      go : (b : Bool) → (cond b (walked true (0 + length w.blocks) (last_of 0 w.blocks)) (walked false 0 0)).sound ≡ b
-      go true = refl
-      go false = refl
+      go : (b : Bool) → Some m ≡ cond b (walked (0 + length w.blocks) (last_of 0 w.blocks)) None → b ≡ true
+      go true e = refl
+      go false e = cc
 
-  -- where it did, how many blocks it met, and the last of them
-  pub told-count : w.ends ≡ true → m.count ≡ length w.blocks
+  is : Some m ≡ walked (length w.blocks) (last_of 0 w.blocks)
   unfolding tally
-  told-count t = ap (λ (x : Walked). x.count) e ∙ simp (t, zero-add)
+  is = simp (told-ends, zero-add) at e
 
-  pub told-last : w.ends ≡ true → m.last ≡ last_of 0 w.blocks
-  unfolding tally
-  told-last t = ap (λ (x : Walked). x.last) e ∙ simp t
+  -- how many blocks it met, and the last of them
+  pub told-count : m.count ≡ length w.blocks
+  told-count = ap (λ (x : Option Walked). elim x [ Some y ↦ y.count | None ↦ 0 ]) is
+
+  pub told-last : m.last ≡ last_of 0 w.blocks
+  told-last = ap (λ (x : Option Walked). elim x [ Some y ↦ y.last | None ↦ 0 ]) is
 
 -- ---- blocks laid before a list, and one list before another
 

@@ -1,19 +1,14 @@
 -- Laws of a walk's steps: it comes to 0, it is too long, it meets what is not sound, or it goes one block on. Assumes nothing.
-use Prim.Native.Nat.{ℕ, zero, suc, ◌+◌}
-use mathlib.Core.Path.{◌≡◌}
-use mathlib.Core.Logic.{◌≢◌}
-use mathlib.Core.Bool.{Bool, true, false}
-use native.Mathlib.Omega.{arith}
+use Rattle.std.proofs.Common.{◌≡◌, ◌≢◌, ℕ, zero, suc, ◌+◌, true, false, Option, Some, None, length, arith}
 use native.Mathlib.Nat.{add-zero}
-use lib.ListN.{length}
 use borrow.Author.Tests.{eq-eqb, ne_eqb}
 use Rattle.page.specs.declared.Walked.{Walked}
 use Rattle.page.specs.Page.{Lent, block_of, link_at, sound_in}
 use Rattle.page.specs.Walk.{Walk, then, walk_from, last_of, tally}
 
--- what is told
-abbrev pub walked : Bool → ℕ → ℕ → Walked
-walked sound count last = record { sound = sound; count = count; last = last }
+-- what is told of a walk that came to 0
+abbrev pub walked : ℕ → ℕ → Option Walked
+walked count last = Some (record { count = count; last = last })
 
 -- a block met counts as one more, and is the last
 tally-then : (count last i : ℕ) (w : Walk) → tally (count + 1) i w ≡ tally count last (then i w)
@@ -24,25 +19,25 @@ tally-then count last i w =
 
 module _ (c : Lent) (room h count last : ℕ) where
   -- it comes to 0
-  pub walk_ends : h ≡ 0 → walked true count last ≡ tally count last (walk_from c room h)
+  pub walk_ends : h ≡ 0 → walked count last ≡ tally count last (walk_from c room h)
   unfolding tally walk_from last_of
   walk_ends e = ends room
     where
-      ends : (room : ℕ) → walked true count last ≡ tally count last (walk_from c room h)
+      ends : (room : ℕ) → walked count last ≡ tally count last (walk_from c room h)
       ends zero = simp (eq-eqb _ _ e, add-zero)
       ends (suc room) = simp (eq-eqb _ _ e, add-zero)
 
   -- it is too long
-  pub walk-long : room ≡ 0 → h ≢ 0 → walked false 0 0 ≡ tally count last (walk_from c room h)
+  pub walk-long : room ≡ 0 → h ≢ 0 → None ≡ tally count last (walk_from c room h)
   unfolding tally walk_from
   walk-long z e = simp (z, ne_eqb _ _ e)
 
   -- it meets what is not sound
-  pub walk-bad : h ≢ 0 → sound_in c h ≡ false → walked false 0 0 ≡ tally count last (walk_from c room h)
+  pub walk-bad : h ≢ 0 → sound_in c h ≡ false → None ≡ tally count last (walk_from c room h)
   unfolding tally walk_from
   walk-bad e f = bad room
     where
-      bad : (room : ℕ) → walked false 0 0 ≡ tally count last (walk_from c room h)
+      bad : (room : ℕ) → None ≡ tally count last (walk_from c room h)
       bad zero = simp (ne_eqb _ _ e)
       bad (suc room) = simp (ne_eqb _ _ e, f)
 

@@ -1,6 +1,6 @@
 -- Good and sound heads in plain numbers, and what a walk from a head tells: a list is damaged where no sequence of
 -- blocks runs from its head (document 01, The page; Damaged). No proof stands in this file.
-use Rattle.std.specs.Prelude.{ℕ, ◌*◌, ◌/◌, ◌%◌, ◌≤◌, ◌≡◌, ◌⊎◌, ◌↔◌, true, false, List, [], ◌∷◌, ◌++◌, length}
+use Rattle.std.specs.Prelude.{ℕ, ◌*◌, ◌/◌, ◌%◌, ◌≤◌, ◌≡◌, ◌⊎◌, ◌↔◌, true, List, [], ◌∷◌, ◌++◌, Option, Some, None, length}
 use Rattle.bitmap.specs.Bitmap.{bit_at}
 use Rattle.page.specs.declared.Walked.{Walked}
 use Rattle.page.specs.Page.{Lent, Rules, good_b, sound_in}
@@ -26,13 +26,12 @@ SoundHead c h = (h ≡ 0) ⊎ (GoodHead c.n c.bw h × (bit_at c.bits (h / (8 * c
 abbrev pub SoundIs : Type 0
 SoundIs = (c : Lent) (h : ℕ) → (sound_in c h ≡ true) ↔ SoundHead c h
 
--- What a walk tells: that it came to 0, how many blocks it met, and the last of them; or that it did not, and nothing
--- else.
-abbrev pub told : List ℕ → Walked
-told xs = record { sound = true; count = length xs; last = last_of 0 xs }
+-- What a walk that came to 0 tells: how many blocks it met, and the last of them. Of one that did not it tells nothing.
+abbrev pub told : List ℕ → Option Walked
+told xs = Some (record { count = length xs; last = last_of 0 xs })
 
-abbrev pub untold : Walked
-untold = record { sound = false; count = 0; last = 0 }
+abbrev pub untold : Option Walked
+untold = None
 
 -- A walk ends exactly where the list runs over a sequence, and it tells of that sequence.
 pub record Walks (c : Lent) (h : ℕ) : Type 0 where

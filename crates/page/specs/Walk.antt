@@ -1,5 +1,5 @@
 -- The walk of a list: from a head over sound addresses to 0, at most n blocks (document 01, Damaged).
-use Rattle.std.specs.Prelude.{ℕ, zero, suc, ◌+◌, Bool, true, false, cond, List, [], ◌∷◌, eqb, length}
+use Rattle.std.specs.Prelude.{ℕ, zero, suc, ◌+◌, Bool, true, false, cond, List, [], ◌∷◌, Option, Some, None, eqb, length}
 use Rattle.page.specs.declared.Walked.{Walked}
 use Rattle.page.specs.Page.{Lent, block_of, link_at, sound_in}
 
@@ -32,8 +32,6 @@ unfoldable pub last_of : ℕ → List ℕ → ℕ
 last_of i [] = i
 last_of i (j ∷ is) = last_of j is
 
--- what is told of a walk that has met count blocks already, the last of them `last`
-unfoldable pub tally : ℕ → ℕ → Walk → Walked
-tally count last w =
-    cond w.ends (record { sound = true; count = count + length w.blocks; last = last_of last w.blocks })
-    (record { sound = false; count = 0; last = 0 })
+-- what is told of a walk that has met count blocks already, the last of them `last`: nothing where it did not come to 0
+unfoldable pub tally : ℕ → ℕ → Walk → Option Walked
+tally count last w = cond w.ends (Some (record { count = count + length w.blocks; last = last_of last w.blocks })) None

@@ -13,58 +13,12 @@ pub const MAX_WIDTH: u64 = 64;
 
 pub const MAX_WORKERS: u64 = 8;
 
-// Whether n, bw and the two lengths keep the page rules.
-pub fn fits(n: u64, bw: u64, page_words: usize, bits_words: usize) -> bool
-    ensures { result ≡ fits_b n bw page_words bits_words }
-{
-    if n > MAX_BLOCKS || bw < 1 || bw > MAX_WIDTH {
-        return false;
-    }
-    page_words as u64 == (n + 1) * bw && bits_words as u64 == (n + 64) / 64
-}
-
 // Whether there may be w workers.
+#[tactic(auto, unfolding(crate::specs::Page::workers_b, answers::specs::Rows::all))]
 pub fn workers_fit(w: u64) -> bool
     ensures { result ≡ workers_b w }
 {
     1 <= w && w <= MAX_WORKERS
-}
-
-// Whether a is a block's number.
-pub fn is_block(n: u64, a: u64) -> bool
-    ensures { result ≡ block_b n a }
-{
-    1 <= a && a <= n
-}
-
-// Whether a to a+b−1 are blocks' numbers, one at least. No sum is made that could wrap.
-pub fn is_run(n: u64, a: u64, b: u64) -> bool
-    ensures { result ≡ run_b n a b }
-{
-    if !is_block(n, a) || b < 1 {
-        return false;
-    }
-    b - 1 <= n - a
-}
-
-// The address of block a; 0, which means none, where a or bw is past its limit.
-pub fn address(bw: u64, a: u64) -> u64
-    ensures { result ≡ cond (leb bw max_width && leb a max_blocks) (address_of bw a) 0 }
-{
-    if bw > MAX_WIDTH || a > MAX_BLOCKS {
-        return 0;
-    }
-    8 * (a * bw)
-}
-
-// The block at an address; 0 where bw is past its limits.
-pub fn block(bw: u64, h: u64) -> u64
-    ensures { result ≡ cond (leb 1 bw && leb bw max_width) (block_of bw h) 0 }
-{
-    if bw < 1 || bw > MAX_WIDTH {
-        return 0;
-    }
-    h / (8 * bw)
 }
 
 // The link at an address; 0 past the page's end.
@@ -72,10 +26,7 @@ pub fn link(page: &[u64], h: u64) -> u64
     ensures { result ≡ link_at page.now h }
 {
     let at = (h / 8) as usize;
-    if at < page.len() {
-        return page[at];
-    }
-    0
+    if at < page.len() { page[at] } else { 0 }
 }
 
 // Writes the link at an address; past the page's end nothing changes.
@@ -88,55 +39,107 @@ pub fn set_link(page: &mut [u64], h: u64, to: u64)
     }
 }
 
-// Whether h is the address of a block.
-pub fn good(n: u64, bw: u64, h: u64) -> bool
-    ensures { result ≡ good_b n bw h }
-{
-    if bw < 1 || bw > MAX_WIDTH {
-        return false;
-    }
-    let size = 8 * bw;
-    let i = h / size;
-    is_block(n, i) && i * size == h
-}
-
-// Whether h is 0, or the address of a block whose bit is set.
-pub fn sound(n: u64, bw: u64, bits: &[u64], h: u64) -> bool
-    ensures { result ≡ sound_b n bw bits.now h }
-{
-    h == 0 || good(n, bw, h) && bitmap::is_set(bits, block(bw, h))
-}
-
-// What a walk tells: whether it came to 0, how many blocks it met, and the last of them (0 if none).
-#[derive(Clone, Copy)]
+// What a walk tells where it came to 0: how many blocks it met, and the last of them (0 if none).
+#[derive(Clone, Copy, Debug, PartialEq, Eq)]
 pub struct Walked {
-    pub sound: bool,
     pub count: u64,
     pub last: u64,
 }
 
-// Walks a list from its head. It stops at n blocks: a ring would go on for ever.
-pub fn walk(head: u64, n: u64, bw: u64, page: &[u64], bits: &[u64]) -> Walked
-    ensures { result ≡ tally 0 0 (walk_of (lent n bw page.now bits.now) head) }
-{
-    let mut h = head;
-    let mut count = 0;
-    let mut last = 0;
-    while h != 0 {
-        if n <= count || !sound(n, bw, bits, h) {
-            return Walked {
-                sound: false,
-                count: 0,
-                last: 0,
-            };
+// A page's numbers: n blocks of bw words.
+#[derive(Clone, Copy, Debug, PartialEq, Eq)]
+pub struct Layout {
+    pub n: u64,
+    pub bw: u64,
+}
+
+impl Layout {
+    // Whether n, bw and the two lengths keep the page rules.
+    #[tactic(auto, unfolding(crate::specs::Page::fits_b, answers::specs::Rows::all))]
+    pub fn fits(self, page_words: usize, bits_words: usize) -> bool
+        ensures { result ≡ fits_b self.n self.bw page_words bits_words }
+    {
+        if self.n > MAX_BLOCKS || self.bw < 1 || self.bw > MAX_WIDTH {
+            return false;
         }
-        last = block(bw, h);
-        count += 1;
-        h = link(page, h);
+        page_words as u64 == (self.n + 1) * self.bw && bits_words as u64 == (self.n + 64) / 64
     }
-    Walked {
-        sound: true,
-        count,
-        last,
+
+    // Whether a is a block's number.
+    #[tactic(auto, unfolding(crate::specs::Page::block_b, answers::specs::Rows::all))]
+    pub fn is_block(self, a: u64) -> bool
+        ensures { result ≡ block_b self.n a }
+    {
+        1 <= a && a <= self.n
+    }
+
+    // Whether a to a+b−1 are blocks' numbers, one at least. No sum is made that could wrap.
+    #[tactic(auto, unfolding(crate::specs::Page::run_b, crate::specs::Page::block_b, answers::specs::Rows::all))]
+    pub fn is_run(self, a: u64, b: u64) -> bool
+        ensures { result ≡ run_b self.n a b }
+    {
+        if !self.is_block(a) || b < 1 {
+            return false;
+        }
+        b - 1 <= self.n - a
+    }
+
+    // The address of block a; 0, which means none, where a or bw is past its limit.
+    pub fn address(self, a: u64) -> u64
+        ensures { result ≡ cond (leb self.bw max_width && leb a max_blocks) (address_of self.bw a) 0 }
+    {
+        if self.bw > MAX_WIDTH || a > MAX_BLOCKS {
+            return 0;
+        }
+        8 * (a * self.bw)
+    }
+
+    // The block at an address; 0 where bw is past its limits.
+    pub fn block(self, h: u64) -> u64
+        ensures { result ≡ cond (leb 1 self.bw && leb self.bw max_width) (block_of self.bw h) 0 }
+    {
+        if self.bw < 1 || self.bw > MAX_WIDTH {
+            return 0;
+        }
+        h / (8 * self.bw)
+    }
+
+    // Whether h is the address of a block.
+    pub fn good(self, h: u64) -> bool
+        ensures { result ≡ good_b self.n self.bw h }
+    {
+        if self.bw < 1 || self.bw > MAX_WIDTH {
+            return false;
+        }
+        let size = 8 * self.bw;
+        let i = h / size;
+        self.is_block(i) && i * size == h
+    }
+
+    // Whether h is 0, or the address of a block whose bit is set.
+    #[tactic(auto, unfolding(crate::specs::Page::sound_b))]
+    pub fn sound(self, bits: &[u64], h: u64) -> bool
+        ensures { result ≡ sound_b self.n self.bw bits.now h }
+    {
+        h == 0 || self.good(h) && bitmap::is_set(bits, self.block(h))
+    }
+
+    // Walks a list from its head; None where it does not come to 0. It stops at n blocks: a ring would go on for ever.
+    pub fn walk(self, head: u64, page: &[u64], bits: &[u64]) -> Option<Walked>
+        ensures { result ≡ tally 0 0 (walk_of (lent self.n self.bw page.now bits.now) head) }
+    {
+        let mut h = head;
+        let mut last = 0;
+        for count in 0..=self.n {
+            if h == 0 {
+                return Some(Walked { count, last });
+            }
+            if !self.sound(bits, h) {
+                return None;
+            }
+            last = self.block(h);
+            h = link(page, h);
+        }
+        None
     }
 }
