@@ -8,6 +8,7 @@ use native.Mathlib.Nat.{add-zero, add-suc, suc-add, le_of_suc-le-suc, not-suc-le
 use native.Mathlib.Decide.{dec_lt, dec_le, ℕ_discrete}
 use native.Mathlib.Omega.{arith}
 use borrow.Author.Tests.{le-leb, lt-leb}
+use Rattle.std.proofs.Common.{Option, Some, None, MatchOption}
 use lib.Dec.{leb}
 use lib.ListN.{get_or}
 use lib.Count.{count_trailing_zeros, under, trailing_le}
@@ -128,13 +129,18 @@ first-is bits n i s l =
 pub first-all : (bits : List ℕ) (n : ℕ) → SetBelow bits (n + 1) → first_unlisted bits n ≡ 0
 first-all bits n s = from-none bits 1 n (λ j h. s (1 + j) (omega arith) (omega arith))
 
--- both in one
-pub first-within : (bits : List ℕ) (n i : ℕ) → Smallest bits i → first_unlisted bits n ≡ cond (leb i n) i 0
-first-within bits n i s = pick (dec_le i n)
+-- both in one: that block if it is at most n
+pub first-within : (bits : List ℕ) (n i : ℕ) (r : Option ℕ) → Smallest bits i → r ≡ cond (leb i n) (Some i) None
+    → MatchOption r (first_unlisted bits n ≡ 0) (λ j. (j ≡ first_unlisted bits n) × (j ≢ 0))
+first-within bits n i r s e = pick (dec_le i n)
   where
-    pick : Dec (i ≤ n) → first_unlisted bits n ≡ cond (leb i n) i 0
-    pick (yes l) = simp (le-leb i n l) (first-is bits n i s l)
-    pick (no g) = simp (lt-leb i n (omega arith)) (first-all bits n (λ j p l. s.before j p (omega arith)))
+    pick : Dec (i ≤ n) → MatchOption r (first_unlisted bits n ≡ 0) (λ j. (j ≡ first_unlisted bits n) × (j ≢ 0))
+    pick (yes l) =
+        let q : r ≡ Some i = e ∙ simp (le-leb i n l) in
+        rw q (sym (first-is bits n i s l), λ z. omega (arith, s.pos))
+    pick (no g) =
+        let q : r ≡ None = e ∙ simp (lt-leb i n (omega arith)) in
+        rw q (first-all bits n (λ j p l. s.before j p (omega arith)))
 
 -- one of the two is so
 either : (bits : List ℕ) (n : ℕ) → SetBelow bits (n + 1) ⊎ ((i : ℕ) × Smallest bits i × i ≤ n)

@@ -37,14 +37,12 @@ pub fn listed_count(bits: &[u64], n: u64) -> u64
 {
     let last = n >> 6;
     let mut sum: u64 = 0;
-    let mut w: u64 = 0;
-    while w < bits.len() as u64 {
+    for w in 0..bits.len() as u64 {
         let word = without_zero(bits, w);
         if w == last {
             return sum + ones_to(word, n & 63);
         }
         sum += ones_of(word);
-        w += 1;
     }
     sum
 }

@@ -1,5 +1,5 @@
 // The first unlisted block: full words are stepped over, then the trailing ones of a word counted.
-ghost use Rattle.std.specs.Prelude.{◌≡◌, cond, leb};
+ghost use Rattle.std.specs.Prelude.{◌≡◌, ◌≢◌, Some, None, MatchOption, cond, leb};
 ghost use Rattle.bitmap.specs.Bitmap.{first_unlisted, with_zero, FirstClear};
 
 use crate::word_at;
@@ -22,25 +22,22 @@ fn with_zero(bits: &[u64], w: u64) -> u64
     }
 }
 
-// i if it is at most n, else 0.
-fn within(i: u64, n: u64) -> u64
-    ensures { result ≡ cond (leb i n) i 0 }
+// i if it is at most n.
+fn within(i: u64, n: u64) -> Option<u64>
+    ensures { result ≡ cond (leb i n) (Some i) None }
 {
-    if i <= n { i } else { 0 }
+    if i <= n { Some(i) } else { None }
 }
 
-// The smallest of 1 to n whose bit is clear; 0 if there is none. Past the slice's end every bit is clear.
-pub fn first_unlisted(bits: &[u64], n: u64) -> u64
-    ensures { result ≡ first_unlisted bits.now n }
+// The smallest of 1 to n whose bit is clear, if there is one. Past the slice's end every bit is clear.
+pub fn first_unlisted(bits: &[u64], n: u64) -> Option<u64>
+    ensures { MatchOption result (first_unlisted bits.now n ≡ 0) (λ i. (i ≡ first_unlisted bits.now n) × (i ≢ 0)) }
 {
-    let last = n >> 6;
-    let mut w: u64 = 0;
-    while w <= last {
+    for w in 0..=n >> 6 {
         let k = first_clear(with_zero(bits, w));
         if k < 64 {
             return within(w * 64 + k, n);
         }
-        w += 1;
     }
-    0
+    None
 }

@@ -13,8 +13,7 @@ pub mod runs;
 fn word_at(bits: &[u64], w: u64) -> u64
     ensures { result ≡ get_or bits.now w 0 }
 {
-    let at = w as usize;
-    if at < bits.len() { bits[at] } else { 0 }
+    bits.get(w as usize).copied().unwrap_or(0)
 }
 
 // Whether bit i is set.

@@ -16,9 +16,7 @@ fn reach(a: u64, b: u64) -> u64
 pub fn any_set(bits: &[u64], a: u64, b: u64) -> bool
     ensures { result ≡ any_set bits.now a (run_length a b) }
 {
-    let m = reach(a, b);
-    let mut seen: u64 = 0;
-    while seen < m {
+    for seen in 0..reach(a, b) {
         let i = a + seen;
         if bits.len() as u64 <= i >> 6 {
             return false;
@@ -26,7 +24,6 @@ pub fn any_set(bits: &[u64], a: u64, b: u64) -> bool
         if is_set(bits, i) {
             return true;
         }
-        seen += 1;
     }
     false
 }
@@ -35,14 +32,11 @@ pub fn any_set(bits: &[u64], a: u64, b: u64) -> bool
 pub fn set_run(bits: &mut [u64], a: u64, b: u64)
     ensures { bits.new ≡ put_run bits.old a (run_length a b) 1 }
 {
-    let m = reach(a, b);
-    let mut done: u64 = 0;
-    while done < m {
+    for done in 0..reach(a, b) {
         let i = a + done;
         if bits.len() as u64 <= i >> 6 {
             return;
         }
         set(&mut *bits, i);
-        done += 1;
     }
 }
