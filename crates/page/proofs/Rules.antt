@@ -1,11 +1,11 @@
 -- Laws of the page: a test that is true gives its facts, its facts give the test, and block and address lead to each other.
 -- Assumes nothing.
-use Prim.Native.Nat.{ℕ, ◌+◌, ◌-◌, ◌*◌, ◌/◌, ◌%◌, ◌≤◌, ◌<◌}
+use Prim.Native.Nat.{ℕ, ◌+◌, ◌*◌, ◌/◌, ◌%◌, ◌≤◌, ◌<◌}
 use mathlib.Core.Path.{◌≡◌, refl, sym, ap, ◌∙◌}
 use mathlib.Core.Logic.{◌≢◌, ◌↔◌}
 use mathlib.Core.Bool.{true, false, ◌&&◌, cond}
 use mathlib.Core.List.{[], ◌∷◌}
-use native.Mathlib.Nat.{mul_left_comm, mul_comm, mul_assoc, mul-pos, mul-le-mul, mul-le-mul_right, mul-lt-mul_of_pos_right, eq_of_mul-eq-mul_right, div-add-mod', div-le_of_le-mul, le-div_iff_mul-le, mul-div_cancel, mul-div-mul_left, mul-mod_left}
+use native.Mathlib.Nat.{mul_left_comm, mul_comm, mul_assoc, mul-pos, mul-le-mul_right, mul-lt-mul_of_pos_right, eq_of_mul-eq-mul_right, div-add-mod', div-le_of_le-mul, le-div_iff_mul-le, mul-div_cancel, mul-div-mul_left, mul-mod_left}
 use native.Mathlib.Omega.{arith}
 use lib.Dec.{leb, eqb}
 use lib.ListN.{length}
@@ -40,15 +40,6 @@ module _ (n bw p b : ℕ) where
   unfolding fits_b all
   fits-test f = simp (le-leb _ _ f.0, le-leb _ _ f.1, le-leb _ _ f.2, eq-eqb _ _ f.3, eq-eqb _ _ f.4)
 
-  -- what fails it
-  pub fits_not : (Fits n bw p b → ⊥) → fits_b n bw p b ≡ false
-  fits_not f = refuted _ (λ e. f (fits-facts e))
-
-  -- where the other rules hold, the bitmap's length tells
-  pub fits-is : n ≤ max_blocks → 1 ≤ bw → bw ≤ max_width → p ≡ (n + 1) * bw → eqb b ((n + 64) / 64) ≡ fits_b n bw p b
-  fits-is l s w e =
-      agrees (eqb b ((n + 64) / 64)) (fits_b n bw p b) (λ t. fits-test (l, s, w, e, eqb-true _ _ t)) (λ t. eq-eqb b ((n + 64) / 64) (fits-facts t).4)
-
 module _ (c : Lent) where
   -- a page whose test is true keeps the rules
   pub rules-facts : keeps_rules_b c ≡ true → Rules c
@@ -59,10 +50,6 @@ module _ (c : Lent) where
   -- a page that keeps them passes the test
   pub rules-test : Rules c → keeps_rules_b c ≡ true
   rules-test r = fits-test _ _ _ _ (r.blocks, r.some, r.narrow, r.words, r.marks)
-
-  -- a page that breaks them does not
-  pub rules-not : (Rules c → ⊥) → keeps_rules_b c ≡ false
-  rules-not f = refuted _ (λ e. f (rules-facts e))
 
 -- ---- a block's number, and how many workers
 
@@ -79,15 +66,6 @@ module _ (n a : ℕ) where
   unfolding block_b all
   block-test f = simp (le-leb _ _ f.0, le-leb _ _ f.1)
 
-  -- no other number is
-  pub block-not : ((1 ≤ a) × (a ≤ n) → ⊥) → block_b n a ≡ false
-  block-not f = refuted _ (λ e. f (block-facts e))
-
-  -- of a number that is not 0, the second test tells
-  pub block-below : 1 ≤ a → leb a n ≡ block_b n a
-  block-below l =
-      agrees (leb a n) (block_b n a) (λ e. block-test (l, leb-true a n e)) (λ e. le-leb a n (block-facts e).1)
-
 module _ (w : ℕ) where
   -- there are 1 to 8 workers
   pub workers-facts : workers_b w ≡ true → (1 ≤ w) × (w ≤ max_workers)
@@ -98,16 +76,6 @@ module _ (w : ℕ) where
   pub workers-test : (1 ≤ w) × (w ≤ max_workers) → workers_b w ≡ true
   unfolding workers_b block_b
   workers-test = block-test max_workers w
-
-  -- no other number of them
-  pub workers-not : ((1 ≤ w) × (w ≤ max_workers) → ⊥) → workers_b w ≡ false
-  unfolding workers_b block_b
-  workers-not = block-not max_workers w
-
-  -- of a number that is not 0, the second test tells
-  pub workers-below : 1 ≤ w → leb w max_workers ≡ workers_b w
-  unfolding workers_b block_b
-  workers-below = block-below max_workers w
 
 module _ (n a b : ℕ) where
   -- a run of blocks lies within 1 to n
@@ -121,14 +89,6 @@ module _ (n a b : ℕ) where
   pub run-test : (1 ≤ a) × (1 ≤ b) × (a + b ≤ n + 1) → run_b n a b ≡ true
   unfolding run_b all
   run-test f = simp (le-leb _ _ f.0, le-leb a n (omega arith), le-leb _ _ f.1, le-leb _ _ f.2)
-
-  pub run-not : ((1 ≤ a) × (1 ≤ b) × (a + b ≤ n + 1) → ⊥) → run_b n a b ≡ false
-  run-not f = refuted _ (λ e. f (run-facts e))
-
-  -- without a sum that could wrap
-  pub run_is : (1 ≤ a) × (a ≤ n) → 1 ≤ b → leb (b - 1) (n - a) ≡ run_b n a b
-  run_is f s =
-      agrees (leb (b - 1) (n - a)) (run_b n a b) (λ e. run-test (f.0, s, omega (arith, leb-true (b - 1) (n - a) e))) (λ e. le-leb (b - 1) (n - a) (omega (arith, run-facts e)))
 
 -- ---- addresses
 
@@ -165,10 +125,6 @@ address-pos bw i s l = omega (arith, mul-pos {m = i} {n = bw} (omega arith) (ome
 -- and so it is not 0, which means none
 pub address-some : (bw i : ℕ) → 1 ≤ bw → 1 ≤ i → address_of bw i ≢ 0
 address-some bw i s l e = omega (arith, address-pos bw i s l)
-
--- it is below 2^21
-pub address-fits : (bw i : ℕ) → bw ≤ max_width → i ≤ max_blocks → address_of bw i < 2097152
-address-fits bw i s l = omega (arith, mul-le-mul {n₂ = max_blocks} {m₂ = max_width} l s)
 
 -- two blocks do not start at one word
 pub place-apart : (bw i j : ℕ) → 1 ≤ bw → place bw i ≡ place bw j → i ≡ j

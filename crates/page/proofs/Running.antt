@@ -4,7 +4,7 @@ use mathlib.Core.Path.{◌≡◌, refl, sym, ap, ◌∙◌, subst}
 use mathlib.Core.Logic.{◌≢◌}
 use mathlib.Core.Bool.{Bool, true, false, cond, true≢false}
 use mathlib.Core.List.{List, [], ◌∷◌, ◌++◌}
-use native.Mathlib.Nat.{mul-pos, zero-add}
+use native.Mathlib.Nat.{mul-pos}
 use native.Mathlib.Omega.{arith}
 use lib.Dec.{eqb}
 use lib.ListN.{length, get_or, set}
@@ -16,8 +16,9 @@ use Rattle.page.specs.Page.{Lent, lent, Rules, place, address_of, block_of, link
 use Rattle.page.specs.Walk.{Walk, ended, broken, then, walk_from, walk_of, last_of, tally}
 use Rattle.page.specs.Sequences.{times, Each, Once, Apart, Chain, head_of, laid, Listed, Runs, OthersStay, OthersRun}
 use Rattle.page.proofs.Rules.{block-address, address-place, address-some, place-apart, place_inside, sound-zero, sound-facts, sound-test}
-use Rattle.page.proofs.Steps.{walked}
-use Rattle.std.proofs.Common.{Option, Some, None}
+use Rattle.std.proofs.Common.{Some, None}
+use Rattle.std.proofs.lemmas.Option.{none-some, cond_some}
+use Rattle.answers.proofs.Rows.{refuted}
 use Rattle.page.proofs.Counting.{times-append, each-head, each_tail, each-cons, each_append, last-in, length-le}
 use Rattle.page.proofs.Chains.{Places, chain-agree, chain-one, chain-once, chain-laid, chain-append, laid-other}
 
@@ -152,32 +153,23 @@ run-last c h (i ∷ xs) x = (x.listed (last_of i xs) (last-in i xs)).high
 -- of one that did not come to 0, nothing
 pub told-none : (w : Walk) → None ≡ tally 0 0 w → w.ends ≡ false
 unfolding tally
-told-none w e = go w.ends e
-  where
-    go : (b : Bool) → None ≡ cond b (walked (0 + length w.blocks) (last_of 0 w.blocks)) None → b ≡ false
-    go true e = cc
-    go false e = refl
+told-none w e = refuted w.ends (λ t. none-some _ (simp t at e))
 
 module _ (w : Walk) {m : Walked} (e : Some m ≡ tally 0 0 w) where
+  both : (w.ends ≡ true) × (record { count = 0 + length w.blocks; last = last_of 0 w.blocks } ≡ m)
+  unfolding tally
+  both = cond_some w.ends _ m (sym e)
+
   -- where something is told, it came to 0
   pub told-ends : w.ends ≡ true
-  unfolding tally
-  told-ends = go w.ends e
-    where
-      go : (b : Bool) → Some m ≡ cond b (walked (0 + length w.blocks) (last_of 0 w.blocks)) None → b ≡ true
-      go true e = refl
-      go false e = cc
-
-  is : Some m ≡ walked (length w.blocks) (last_of 0 w.blocks)
-  unfolding tally
-  is = simp (told-ends, zero-add) at e
+  told-ends = both.0
 
   -- how many blocks it met, and the last of them
   pub told-count : m.count ≡ length w.blocks
-  told-count = ap (λ (x : Option Walked). elim x [ Some y ↦ y.count | None ↦ 0 ]) is
+  told-count = omega (arith, ap (λ (x : Walked). x.count) both.1)
 
   pub told-last : m.last ≡ last_of 0 w.blocks
-  told-last = ap (λ (x : Option Walked). elim x [ Some y ↦ y.last | None ↦ 0 ]) is
+  told-last = ap (λ (x : Walked). x.last) (sym both.1)
 
 -- ---- blocks laid before a list, and one list before another
 

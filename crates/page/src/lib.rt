@@ -25,8 +25,7 @@ pub fn workers_fit(w: u64) -> bool
 pub fn link(page: &[u64], h: u64) -> u64
     ensures { result ≡ link_at page.now h }
 {
-    let at = (h / 8) as usize;
-    if at < page.len() { page[at] } else { 0 }
+    page.get((h / 8) as usize).copied().unwrap_or(0)
 }
 
 // Writes the link at an address; past the page's end nothing changes.
