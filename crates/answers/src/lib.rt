@@ -59,9 +59,18 @@ impl From<Result<Option<u64>, Refusal>> for Answer {
 
     fn from(r: Result<Option<u64>, Refusal>) -> Answer {
         match r {
-            Ok(Some(value)) => Answer { number: DONE, value },
-            Ok(None) => Answer { number: UNDER_WAY, value: 0 },
-            Err(e) => Answer { number: u64::from(e), value: 0 },
+            Ok(Some(value)) => Answer {
+                number: DONE,
+                value,
+            },
+            Ok(None) => Answer {
+                number: UNDER_WAY,
+                value: 0,
+            },
+            Err(e) => Answer {
+                number: u64::from(e),
+                value: 0,
+            },
         }
     }
 }

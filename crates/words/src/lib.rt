@@ -3,9 +3,10 @@
 #![tactic(auto)]
 
 ghost use Rattle.std.specs.Prelude.{◌≡◌, ◌+◌, eqb};
+ghost use Rattle.answers.specs.Refusals.{told};
 ghost use Rattle.words.specs.Tagged.{address_of, tag_of, use_delayed_free, freeing, set_ptr_of, set_delay_of};
 
-use answers::{Answer, DONE, NO_SUCH};
+use answers::Refusal;
 
 // The tags.
 pub const USE_DELAYED_FREE: u64 = 0;
@@ -41,19 +42,13 @@ pub fn masked_ptr_delay_get_ptr(v: u64) -> u64
 }
 
 // The word with another address and its own tag.
-pub fn masked_ptr_delay_set_ptr(v: u64, address: u64) -> Answer
-    ensures { result ≡ set_ptr_of v address }
+pub fn masked_ptr_delay_set_ptr(v: u64, address: u64) -> Result<u64, Refusal>
+    ensures { told result ≡ set_ptr_of v address }
 {
     if address & TAG != 0 {
-        return Answer {
-            number: NO_SUCH,
-            value: 0,
-        };
+        return Err(Refusal::NoSuch);
     }
-    Answer {
-        number: DONE,
-        value: address | (v & TAG),
-    }
+    Ok(address | (v & TAG))
 }
 
 // The word with its own address and tag 1.
@@ -64,17 +59,11 @@ pub fn masked_ptr_delay_set_freeing(v: u64) -> u64
 }
 
 // The word with its own address and another tag.
-pub fn masked_ptr_delay_set_delay(v: u64, tag: u64) -> Answer
-    ensures { result ≡ set_delay_of v tag }
+pub fn masked_ptr_delay_set_delay(v: u64, tag: u64) -> Result<u64, Refusal>
+    ensures { told result ≡ set_delay_of v tag }
 {
     if tag > TAG {
-        return Answer {
-            number: NO_SUCH,
-            value: 0,
-        };
+        return Err(Refusal::NoSuch);
     }
-    Answer {
-        number: DONE,
-        value: v & !TAG | tag,
-    }
+    Ok(v & !TAG | tag)
 }
