@@ -1,3 +1,4 @@
+pub mod Among
 pub mod Tells
 pub mod PairArms
 pub mod Agree

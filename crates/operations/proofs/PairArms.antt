@@ -1,25 +1,10 @@
--- Which stages a rule pairs with an operation, by the outcomes of the tests. Assumes nothing.
+-- Only a push writes. Assumes nothing.
 use Prim.Native.Nat.{ℕ}
 use mathlib.Core.Path.{◌≡◌, refl, sym}
-use mathlib.Core.Bool.{Bool, true, false, cond, or-false, true≢false}
+use mathlib.Core.Bool.{Bool, true, false, cond, true≢false}
 use mathlib.Core.List.{[], ◌∷◌}
 use lib.Dec.{eqb}
 use Rattle.operations.specs.Operations.{take_shared, take_tagged, set_tag, ask_tag, await_tag, pushes_b, loading, writing, exchanging, swapping, masking, one_of, stages_of, paired_b}
-
--- one of a list of one
-pub one-is : (k x : ℕ) → eqb k x ≡ one_of k (x ∷ [])
-unfolding one_of
-one-is k x = sym (or-false (eqb k x))
-
--- the law that every return of `is_paired` cites
-pub paired_is : (op stage : ℕ) {p t m s w : Bool} → pushes_b op ≡ p → eqb op take_shared ≡ t → eqb op take_tagged ≡ m
-    → one_of op (set_tag ∷ ask_tag ∷ []) ≡ s → eqb op await_tag ≡ w
-    → one_of stage
-    (cond p (loading ∷ writing ∷ exchanging ∷ [])
-    (cond t (loading ∷ swapping ∷ []) (cond m (masking ∷ []) (cond s (loading ∷ exchanging ∷ []) (cond w (loading ∷ []) [])))))
-    ≡ paired_b op stage
-unfolding stages_of
-paired_is op stage p t m s w = simp (← p, ← t, ← m, ← s, ← w)
 
 -- only a push writes
 pub writing-pushes : (op : ℕ) → paired_b op writing ≡ true → pushes_b op ≡ true

@@ -3,9 +3,9 @@
 #![tactic(auto)]
 
 ghost use Rattle.std.specs.Prelude.{◌≡◌};
-ghost use Rattle.operations.specs.Operations.{staged_b, pushes_b, takes_b, on_shared_b, on_tagged_b, word_of, off_b, full_b, first_stage, paired_b, busy_b};
+ghost use Rattle.operations.specs.Operations.{staged_b, pushes_b, takes_b, on_shared_b, on_tagged_b, word_of, off_b, full_b, first_stage, paired_b, busy_b, record8};
 
-use crate::choice::{is_either, is_one_of};
+use crate::choice::is_one_of;
 
 pub mod choice;
 
@@ -34,7 +34,7 @@ pub const SWAPPING: u64 = 4;
 pub const MASKING: u64 = 5;
 
 // A worker's record.
-#[derive(Clone, Copy)]
+#[derive(Clone, Copy, Debug, PartialEq, Eq)]
 pub struct Worker {
     pub own: u64,
     pub got: u64,
@@ -46,7 +46,33 @@ pub struct Worker {
     pub sightings: u64,
 }
 
+impl Worker {
+    // A worker with these lists and no operation: every other field is 0.
+    pub fn resting(own: u64, got: u64) -> Worker
+        ensures { result ≡ record8 own got 0 0 0 0 0 0 }
+    {
+        Worker {
+            own,
+            got,
+            operation: 0,
+            stage: 0,
+            tag: 0,
+            hand: 0,
+            seen: 0,
+            sightings: 0,
+        }
+    }
+
+    // Whether an operation is under way.
+    pub fn is_busy(&self) -> bool
+        ensures { result ≡ busy_b self.now }
+    {
+        self.operation != 0
+    }
+}
+
 // Whether an operation is staged.
+#[tactic(auto, unfolding(crate::specs::Operations::staged_b))]
 pub fn is_staged(operation: u64) -> bool
     ensures { result ≡ staged_b operation }
 {
@@ -54,6 +80,7 @@ pub fn is_staged(operation: u64) -> bool
 }
 
 // Whether it pushes.
+#[tactic(auto, unfolding(crate::specs::Operations::pushes_b))]
 pub fn pushes(operation: u64) -> bool
     ensures { result ≡ pushes_b operation }
 {
@@ -61,6 +88,7 @@ pub fn pushes(operation: u64) -> bool
 }
 
 // Whether it takes.
+#[tactic(auto, unfolding(crate::specs::Operations::takes_b))]
 pub fn takes(operation: u64) -> bool
     ensures { result ≡ takes_b operation }
 {
@@ -68,6 +96,7 @@ pub fn takes(operation: u64) -> bool
 }
 
 // Whether it is on S.
+#[tactic(auto, unfolding(crate::specs::Operations::on_shared_b))]
 pub fn on_shared(operation: u64) -> bool
     ensures { result ≡ on_shared_b operation }
 {
@@ -75,6 +104,7 @@ pub fn on_shared(operation: u64) -> bool
 }
 
 // Whether it is on T.
+#[tactic(auto, unfolding(crate::specs::Operations::on_tagged_b))]
 pub fn on_tagged(operation: u64) -> bool
     ensures { result ≡ on_tagged_b operation }
 {
@@ -82,16 +112,15 @@ pub fn on_tagged(operation: u64) -> bool
 }
 
 // Its head word: S or T.
+#[tactic(auto, unfolding(crate::specs::Operations::word_of))]
 pub fn word_of(operation: u64, shared: u64, tagged: u64) -> u64
     ensures { result ≡ word_of operation shared tagged }
 {
-    if on_shared(operation) {
-        return shared;
-    }
-    tagged
+    if on_shared(operation) { shared } else { tagged }
 }
 
 // Whether it is on T while T is off.
+#[tactic(auto, unfolding(crate::specs::Operations::off_b))]
 pub fn is_off(operation: u64, on: bool) -> bool
     ensures { result ≡ off_b operation on }
 {
@@ -99,6 +128,7 @@ pub fn is_off(operation: u64, on: bool) -> bool
 }
 
 // Whether it takes while got is not empty.
+#[tactic(auto, unfolding(crate::specs::Operations::full_b))]
 pub fn is_full(operation: u64, got: u64) -> bool
     ensures { result ≡ full_b operation got }
 {
@@ -106,40 +136,28 @@ pub fn is_full(operation: u64, got: u64) -> bool
 }
 
 // The first stage.
+#[tactic(auto, unfolding(crate::specs::Operations::first_stage))]
 pub fn first_stage(operation: u64) -> u64
     ensures { result ≡ first_stage operation }
 {
     if operation == TAKE_TAGGED {
-        return MASKING;
+        MASKING
+    } else {
+        LOADING
     }
-    LOADING
 }
 
 // Whether a rule pairs an operation and a stage.
+#[tactic(auto, unfolding(crate::specs::Operations::stages_of, crate::specs::Operations::pushes_b, crate::specs::Operations::one_of))]
 pub fn is_paired(operation: u64, stage: u64) -> bool
     ensures { result ≡ paired_b operation stage }
 {
-    if pushes(operation) {
-        return is_one_of(stage, LOADING, WRITING, EXCHANGING);
+    match operation {
+        PUSH_SHARED | PUSH_TAGGED => is_one_of(stage, [LOADING, WRITING, EXCHANGING]),
+        TAKE_SHARED => is_one_of(stage, [LOADING, SWAPPING]),
+        TAKE_TAGGED => stage == MASKING,
+        SET_TAG | ASK_TAG => is_one_of(stage, [LOADING, EXCHANGING]),
+        AWAIT_TAG => stage == LOADING,
+        _ => false,
     }
-    if operation == TAKE_SHARED {
-        return is_either(stage, LOADING, SWAPPING);
-    }
-    if operation == TAKE_TAGGED {
-        return stage == MASKING;
-    }
-    if is_either(operation, SET_TAG, ASK_TAG) {
-        return is_either(stage, LOADING, EXCHANGING);
-    }
-    if operation == AWAIT_TAG {
-        return stage == LOADING;
-    }
-    false
-}
-
-// Whether an operation is under way.
-pub fn is_busy(k: Worker) -> bool
-    ensures { result ≡ busy_b k }
-{
-    k.operation != 0
 }
