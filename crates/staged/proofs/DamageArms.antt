@@ -1,4 +1,4 @@
--- The damage test by its parts: one that holds decides it, and where it does not hold none of them does. Assumes nothing.
+-- Where the damage test does not hold none of its parts does, and what that gives a move. Assumes nothing.
 use Prim.Native.Nat.{ℕ, zero, suc, ◌+◌, ◌≤◌}
 use mathlib.Core.Path.{◌≡◌, refl, sym, ap, ◌∙◌}
 use mathlib.Core.Bool.{Bool, true, false, not, ◌&&◌, ◌||◌, or-false}
@@ -36,47 +36,6 @@ unfolding any
 none-at [] i e = refl
 none-at (b ∷ l) zero e = or_left b (any l) e
 none-at (b ∷ l) (suc i) e = none-at l i (or_right b (any l) e)
-
--- one that does not hold is passed over
-any-past : (l : List Bool) (i : ℕ) → get_or l i true ≡ false → any (drop i l) ≡ any (drop (suc i) l)
-unfolding any
-any-past [] zero e = refl
-any-past [] (suc i) e = refl
-any-past (b ∷ l) zero e = simp e
-any-past (b ∷ l) (suc i) e = any-past l i e
-
--- one that holds decides
-any_at : (l : List Bool) (i : ℕ) → get_or l i false ≡ true → any (drop i l) ≡ true
-unfolding any
-any_at [] zero e = e
-any_at [] (suc i) e = e
-any_at (b ∷ l) zero e = simp e
-any_at (b ∷ l) (suc i) e = any_at l i e
-
--- ---- the damage test
-
--- the tests before the one at i are passed: it goes by the others
-abbrev pub Past : ℕ → Turn → Type 0
-Past i t = damaged_b t ≡ any (drop i (damage_tests t))
-
-module _ (t : Turn) where
-  -- none is passed yet
-  pub past-none : Past 0 t
-  unfolding damaged_b
-  past-none = refl
-
-  -- the one at i does not hold
-  pub past : (i : ℕ) → Past i t → get_or (damage_tests t) i true ≡ false → Past (i + 1) t
-  past i p e = rw add-one (p ∙ any-past (damage_tests t) i e)
-
-  -- it does
-  pub found : (i : ℕ) → Past i t → get_or (damage_tests t) i false ≡ true → true ≡ damaged_b t
-  found i p e = sym (p ∙ any_at (damage_tests t) i e)
-
-  -- past all others it goes by the last
-  pub last-test : Past 7 t → full_b t.worker.operation t.worker.got ≡ damaged_b t
-  unfolding any
-  last-test p = sym (p ∙ or-false (full_b t.worker.operation t.worker.got))
 
 -- ---- where it does not hold
 

@@ -1,7 +1,5 @@
-pub mod StartArms
 pub mod DamageArms
 pub mod StageArms
-pub mod MoveArms
 pub mod Sequences
 pub mod Examples
 pub mod Damaged

@@ -1,13 +1,20 @@
 -- The statements of `Readings`, proved. Assumes nothing.
-use mathlib.Core.Path.{refl}
+use mathlib.Core.Path.{refl, sym, ap, ◌∙◌}
+use Rattle.std.proofs.Common.{ℕ, Option, Some, None, Result, Ok, Err, ◌≡◌}
 use Rattle.staged.specs.Readings.{StartIsRead, MoveIsRead}
 
 pub start-is-read : StartIsRead
-start-is-read k bits after r =
-    record { worker = refl; bitmap = refl; number = refl; value = refl; worker_after = refl; bitmap_after = refl }
+start-is-read k then bits after r =
+    record {
+      worker = refl;
+      bitmap = refl;
+      answer = record { under_way = λ e. rw e (refl, refl); refused = λ f e. rw e (refl, refl) };
+      worker_after = refl;
+      bitmap_after = refl;
+    }
 
 pub move-is-read : MoveIsRead
-move-is-read k shared tagged n bw on page after bits r =
+move-is-read k then x y n bw page after bits r =
     record {
       worker = refl;
       head_s = refl;
@@ -17,8 +24,8 @@ move-is-read k shared tagged n bw on page after bits r =
       width = refl;
       words = refl;
       bitmap = refl;
-      number = refl;
-      value = refl;
+      answer =
+          record { ended = λ v e. rw e (refl, refl); under_way = λ e. rw e (refl, refl); refused = λ f e. rw e (refl, refl) };
       worker_after = refl;
       head_s_after = refl;
       head_t_after = refl;

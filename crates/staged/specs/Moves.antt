@@ -1,6 +1,8 @@
 -- One move of a worker: load, write, exchange, swap, mask (document 01, Requests 6 to 12).
-use Rattle.std.specs.Prelude.{ℕ, ◌+◌, ◌≤◌, ◌≡◌, Bool, true, not, ◌||◌, cond, List, [], ◌∷◌, leb, eqb, set}
+use Rattle.std.specs.Prelude.{ℕ, ◌+◌, ◌≤◌, ◌≡◌, Bool, true, not, ◌||◌, cond, List, [], ◌∷◌, Option, Result, leb, eqb, set}
+use Rattle.answers.specs.declared.Refusal.{Refusal}
 use Rattle.answers.specs.Numbers.{done, under_way, bad_page, idle, damaged}
+use Rattle.answers.specs.Refusals.{progress}
 use Rattle.answers.specs.Rows.{row, first, Outcome, outcome, unless}
 use Rattle.words.specs.Tagged.{tag_of, address_of, freeing, no_delayed_free}
 use Rattle.page.specs.Limits.{max_blocks, max_width}
@@ -8,23 +10,19 @@ use Rattle.page.specs.Page.{Lent, lent, keeps_rules_b, place, block_of}
 use Rattle.page.specs.Page as page
 use Rattle.operations.specs.declared.Worker.{Worker}
 use Rattle.operations.specs.Operations.{pushes_b, on_shared_b, take_shared, set_tag, ask_tag, loading, writing, exchanging, swapping, busy_b}
-use Rattle.staged.specs.declared.moves.Moved.{Moved}
+use Rattle.staged.specs.declared.Common.{Common}
 use Rattle.staged.specs.Workers.{max_tag, max_sightings, rested, holding, saw, sighted, at_stage}
 use Rattle.staged.specs.Damage.{Turn, turn, head_word, damaged_b}
 
 -- ---- what a move leaves
 
--- the record of the code
-abbrev pub moved : ℕ → ℕ → ℕ → ℕ → Worker → Moved
-moved number v shared tagged k = record { number = number; value = v; shared = shared; tagged = tagged; worker = k }
-
--- what a move gives back, with the switch and what is lent
-abbrev pub leaves : Moved → Bool → Lent → Outcome Turn
-leaves r on l = outcome r.number r.value (turn r.worker r.shared r.tagged on l)
+-- what a move gives back and leaves of the record and of what the workers share, with what is lent
+abbrev pub leaves : Result (Option ℕ) Refusal → Worker → Common → Lent → Outcome Turn
+leaves r k c l = outcome (progress r).number (progress r).value (turn k c.shared c.tagged c.on l)
 
 -- the same, with what the slices hold then
-abbrev pub went : ℕ → ℕ → Bool → Moved → List ℕ → List ℕ → Outcome Turn
-went n bw on r page bits = leaves r on (lent n bw page bits)
+abbrev pub went : ℕ → ℕ → Result (Option ℕ) Refusal → Worker → Common → List ℕ → List ℕ → Outcome Turn
+went n bw r k c page bits = leaves r k c (lent n bw page bits)
 
 -- another record, all else as it was
 abbrev pub with_worker : Turn → Worker → Turn

@@ -1,43 +1,54 @@
 -- How the contracts of `start` and `make` read what a call is lent and what it gives back: each field is what its name
 -- says, so that what the other statements say of a configuration, they say of the code. No proof stands in this file.
-use Rattle.std.specs.Prelude.{ℕ, ◌≡◌, Bool, List}
+use Rattle.std.specs.Prelude.{ℕ, ◌≡◌, Bool, List, Option, Some, None, Result, Ok, Err}
+use Rattle.answers.specs.declared.Refusal.{Refusal}
+use Rattle.answers.specs.Refusals.{number_of}
 use Rattle.answers.specs.Rows.{Outcome}
 use Rattle.page.specs.Page.{lent}
 use Rattle.operations.specs.declared.Worker.{Worker}
-use Rattle.staged.specs.declared.start.Begun.{Begun}
-use Rattle.staged.specs.declared.moves.Moved.{Moved}
+use Rattle.staged.specs.declared.Common.{Common}
 use Rattle.staged.specs.Start.{Starter, starter, started}
 use Rattle.staged.specs.Damage.{Turn, turn}
 use Rattle.staged.specs.Moves.{went}
 
+-- An accepted start is under way with value 0, and a refused one has its refusal's number and value 0.
+pub record Begins (r : Result (Unit {0}) Refusal) (o : Outcome Starter) : Type 0 where
+  pub under_way : r ≡ Ok tt → (o.number ≡ 1) × (o.value ≡ 0)
+  pub refused : (e : Refusal) → r ≡ Err e → (o.number ≡ number_of e) × (o.value ≡ 0)
+
 -- A start is read as its worker's record and the bitmap before and after.
-pub record StartRead (k : Worker) (bits after : List ℕ) (r : Begun) (c : Starter) (o : Outcome Starter) : Type 0 where
+pub record StartRead (k then : Worker) (bits after : List ℕ) (r : Result (Unit {0}) Refusal) (c : Starter) (o : Outcome Starter) : Type 0 where
   pub worker : c.worker ≡ k
   pub bitmap : c.bits ≡ bits
-  pub number : o.number ≡ r.number
-  pub value : o.value ≡ r.value
-  pub worker_after : o.after.worker ≡ r.worker
+  pub answer : Begins r o
+  pub worker_after : o.after.worker ≡ then
   pub bitmap_after : o.after.bits ≡ after
 
 abbrev pub StartIsRead : Type 0
-StartIsRead = (k : Worker) (bits after : List ℕ) (r : Begun) → StartRead k bits after r (starter k bits) (started r after)
+StartIsRead = (k then : Worker) (bits after : List ℕ) (r : Result (Unit {0}) Refusal) → StartRead k then bits after r (starter k bits) (started r then after)
+
+-- A move that ended has number 0 and its value, one under way number 1 and value 0, and a refused one its refusal's number and
+-- value 0.
+pub record Progresses (r : Result (Option ℕ) Refusal) (o : Outcome Turn) : Type 0 where
+  pub ended : (v : ℕ) → r ≡ Ok (Some v) → (o.number ≡ 0) × (o.value ≡ v)
+  pub under_way : r ≡ Ok None → (o.number ≡ 1) × (o.value ≡ 0)
+  pub refused : (e : Refusal) → r ≡ Err e → (o.number ≡ number_of e) × (o.value ≡ 0)
 
 -- A move is read as its worker's record, S, T, the switch, n, bw, the page before and after, and the bitmap.
-pub record MoveRead (k : Worker) (shared tagged n bw : ℕ) (on : Bool) (page after bits : List ℕ) (r : Moved) (t : Turn) (o : Outcome Turn) : Type 0 where
+pub record MoveRead (k then : Worker) (x y : Common) (n bw : ℕ) (page after bits : List ℕ) (r : Result (Option ℕ) Refusal) (t : Turn) (o : Outcome Turn) : Type 0 where
   pub worker : t.worker ≡ k
-  pub head_s : t.shared ≡ shared
-  pub head_t : t.tagged ≡ tagged
-  pub switch : t.on ≡ on
+  pub head_s : t.shared ≡ x.shared
+  pub head_t : t.tagged ≡ x.tagged
+  pub switch : t.on ≡ x.on
   pub blocks : t.lent.n ≡ n
   pub width : t.lent.bw ≡ bw
   pub words : t.lent.page ≡ page
   pub bitmap : t.lent.bits ≡ bits
-  pub number : o.number ≡ r.number
-  pub value : o.value ≡ r.value
-  pub worker_after : o.after.worker ≡ r.worker
-  pub head_s_after : o.after.shared ≡ r.shared
-  pub head_t_after : o.after.tagged ≡ r.tagged
-  pub switch_after : o.after.on ≡ on
+  pub answer : Progresses r o
+  pub worker_after : o.after.worker ≡ then
+  pub head_s_after : o.after.shared ≡ y.shared
+  pub head_t_after : o.after.tagged ≡ y.tagged
+  pub switch_after : o.after.on ≡ y.on
   pub blocks_after : o.after.lent.n ≡ n
   pub width_after : o.after.lent.bw ≡ bw
   pub words_after : o.after.lent.page ≡ after
@@ -45,5 +56,5 @@ pub record MoveRead (k : Worker) (shared tagged n bw : ℕ) (on : Bool) (page af
 
 abbrev pub MoveIsRead : Type 0
 MoveIsRead =
-    (k : Worker) (shared tagged n bw : ℕ) (on : Bool) (page after bits : List ℕ) (r : Moved)
-    → MoveRead k shared tagged n bw on page after bits r (turn k shared tagged on (lent n bw page bits)) (went n bw on r after bits)
+    (k then : Worker) (x y : Common) (n bw : ℕ) (page after bits : List ℕ) (r : Result (Option ℕ) Refusal)
+    → MoveRead k then x y n bw page after bits r (turn k x.shared x.tagged x.on (lent n bw page bits)) (went n bw r then y after bits)

@@ -1,13 +1,15 @@
 -- The start of requests 6 to 12: what refuses it, smallest number first, and the record set afresh. S, T and the page are no
 -- part of it (document 01, Numbers given back and Requests).
-use Rattle.std.specs.Prelude.{ℕ, Bool, not, ◌&&◌, cond, List, [], ◌∷◌, leb, eqb}
+use Rattle.std.specs.Prelude.{ℕ, Bool, not, ◌&&◌, cond, List, [], ◌∷◌, Result, Ok, Err, leb, eqb}
+use Rattle.answers.specs.declared.Answer.{Answer}
+use Rattle.answers.specs.declared.Refusal.{Refusal}
 use Rattle.answers.specs.Numbers.{under_way, no_such, busy, switched, not_empty, listed}
-use Rattle.answers.specs.Rows.{row, first, Outcome, outcome, unless}
+use Rattle.answers.specs.Refusals.{number_of}
+use Rattle.answers.specs.Rows.{row, first, answer, Outcome, outcome, unless}
 use Rattle.bitmap.specs.Bitmap.{bit_put}
 use Rattle.page.specs.Page.{block_b, listed_b}
 use Rattle.operations.specs.declared.Worker.{Worker}
 use Rattle.operations.specs.Operations.{set_tag, staged_b, pushes_b, off_b, full_b, busy_b}
-use Rattle.staged.specs.declared.start.Begun.{Begun}
 use Rattle.staged.specs.Workers.{max_tag, begun}
 
 -- what a start may change: the worker's record and the bitmap
@@ -18,13 +20,14 @@ pub record Starter : Type 0 where
 abbrev pub starter : Worker → List ℕ → Starter
 starter k bits = record { worker = k; bits = bits }
 
--- the record of the code: a number with value 0
-abbrev pub begins : ℕ → Worker → Begun
-begins number k = record { number = number; value = 0; worker = k }
+-- under way, or refused, with value 0
+abbrev pub begins : Result (Unit {0}) Refusal → Answer
+begins (Ok u) = answer under_way 0
+begins (Err e) = answer (number_of e) 0
 
--- what a start gives back, with what the bitmap holds then
-abbrev pub started : Begun → List ℕ → Outcome Starter
-started r bits = outcome r.number r.value (starter r.worker bits)
+-- what a start gives back and leaves
+abbrev pub started : Result (Unit {0}) Refusal → Worker → List ℕ → Outcome Starter
+started r k bits = outcome (begins r).number (begins r).value (starter k bits)
 
 -- the request's argument: a block for a push, a tag for request 10, none for the others
 unfoldable pub start_fits_b : ℕ → ℕ → ℕ → Bool

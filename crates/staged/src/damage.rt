@@ -3,22 +3,25 @@ ghost use Rattle.std.specs.Prelude.{◌≡◌, List, ℕ};
 ghost use Rattle.page.specs.Page.{lent};
 ghost use Rattle.staged.specs.Damage.{turn, hand_bad, tag_bad, sightings_bad, tag_on_shared, head_bad, seen_bad, damaged_b};
 
-use crate::{MAX_SIGHTINGS, MAX_TAG};
-use operations::choice::{is_either, is_one_of};
+use crate::{Common, MAX_SIGHTINGS, MAX_TAG};
+use operations::choice::is_one_of;
 use operations::{
     ASK_TAG, EXCHANGING, LOADING, MASKING, SET_TAG, SWAPPING, WRITING, Worker, is_full, is_off,
-    is_paired, on_shared, pushes, word_of,
+    is_paired, on_shared, pushes,
 };
+use page::Layout;
 use words::{masked_ptr_delay_get_delay, masked_ptr_delay_get_ptr};
 
 // For 6 and 8, whether the block in hand is not 1 to n or its bit is clear.
-fn hand_bad(k: Worker, n: u64, bits: &[u64]) -> bool
-    ensures { result ≡ hand_bad n bits.now k }
+#[tactic(auto, unfolding(crate::specs::Damage::hand_bad))]
+fn hand_bad(k: &Worker, layout: Layout, bits: &[u64]) -> bool
+    ensures { result ≡ hand_bad layout.n bits.now k.now }
 {
-    pushes(k.operation) && (!page::is_block(n, k.hand) || !bitmap::is_set(bits, k.hand))
+    pushes(k.operation) && (!layout.is_block(k.hand) || !bitmap::is_set(bits, k.hand))
 }
 
 // For S, whether a word has a tag.
+#[tactic(auto, unfolding(crate::specs::Damage::tag_on_shared))]
 fn tag_on_shared(operation: u64, word: u64) -> bool
     ensures { result ≡ tag_on_shared operation word }
 {
@@ -26,81 +29,51 @@ fn tag_on_shared(operation: u64, word: u64) -> bool
 }
 
 // At write or exchange, whether the word seen is neither 0 nor good; for S, whether it has a tag.
-fn seen_bad(k: Worker, n: u64, bw: u64) -> bool
-    ensures { result ≡ seen_bad n bw k }
+#[tactic(auto, unfolding(crate::specs::Damage::seen_bad))]
+fn seen_bad(k: &Worker, layout: Layout) -> bool
+    ensures { result ≡ seen_bad layout.n layout.bw k.now }
 {
-    if !is_either(k.stage, WRITING, EXCHANGING) {
-        return false;
-    }
     let address = masked_ptr_delay_get_ptr(k.seen);
-    if address == 0 {
-        return tag_on_shared(k.operation, k.seen);
-    }
-    if !page::good(n, bw, address) {
-        return true;
-    }
-    tag_on_shared(k.operation, k.seen)
+    is_one_of(k.stage, [WRITING, EXCHANGING])
+        && (address != 0 && !layout.good(address) || tag_on_shared(k.operation, k.seen))
 }
 
 // At load, swap or masking, whether the head is not sound; for S, whether it has a tag.
-fn head_bad(k: Worker, n: u64, bw: u64, word: u64, bits: &[u64]) -> bool
-    ensures { result ≡ head_bad n bw bits.now k word }
+#[tactic(auto, unfolding(crate::specs::Damage::head_bad))]
+fn head_bad(k: &Worker, layout: Layout, word: u64, bits: &[u64]) -> bool
+    ensures { result ≡ head_bad layout.n layout.bw bits.now k.now word }
 {
-    if !is_one_of(k.stage, LOADING, SWAPPING, MASKING) {
-        return false;
-    }
-    if !page::sound(n, bw, bits, masked_ptr_delay_get_ptr(word)) {
-        return true;
-    }
-    tag_on_shared(k.operation, word)
+    is_one_of(k.stage, [LOADING, SWAPPING, MASKING])
+        && (!layout.sound(bits, masked_ptr_delay_get_ptr(word)) || tag_on_shared(k.operation, word))
 }
 
 // For 11, whether the sightings are above 4.
-fn sightings_bad(k: Worker) -> bool
-    ensures { result ≡ sightings_bad k }
+#[tactic(auto, unfolding(crate::specs::Damage::sightings_bad))]
+fn sightings_bad(k: &Worker) -> bool
+    ensures { result ≡ sightings_bad k.now }
 {
     k.operation == ASK_TAG && MAX_SIGHTINGS < k.sightings
 }
 
 // For 10, whether the wanted tag is above 3.
-fn tag_bad(k: Worker) -> bool
-    ensures { result ≡ tag_bad k }
+#[tactic(auto, unfolding(crate::specs::Damage::tag_bad))]
+fn tag_bad(k: &Worker) -> bool
+    ensures { result ≡ tag_bad k.now }
 {
     k.operation == SET_TAG && MAX_TAG < k.tag
 }
 
 // Whether a move finds its operation damaged, whatever stands in the page.
-pub fn is_damaged(
-    k: Worker,
-    n: u64,
-    bw: u64,
-    shared: u64,
-    tagged: u64,
-    on: bool,
-    bits: &[u64],
-) -> bool
-    ensures { (page : List ℕ) → result ≡ damaged_b (turn k shared tagged on (lent n bw page bits.now)) }
+#[tactic(auto, unfolding(crate::specs::Damage::damaged_b, crate::specs::Damage::any))]
+pub fn is_damaged(k: &Worker, common: &Common, layout: Layout, bits: &[u64]) -> bool
+    ensures { (page : List ℕ) → result ≡ damaged_b (turn k.now common.now.shared common.now.tagged common.now.on (lent layout.n layout.bw page bits.now)) }
 {
-    if !is_paired(k.operation, k.stage) {
-        return true;
-    }
-    if hand_bad(k, n, bits) {
-        return true;
-    }
-    if seen_bad(k, n, bw) {
-        return true;
-    }
-    if head_bad(k, n, bw, word_of(k.operation, shared, tagged), bits) {
-        return true;
-    }
-    if is_off(k.operation, on) {
-        return true;
-    }
-    if sightings_bad(k) {
-        return true;
-    }
-    if tag_bad(k) {
-        return true;
-    }
-    is_full(k.operation, k.got)
+    !is_paired(k.operation, k.stage)
+        || hand_bad(k, layout, bits)
+        || seen_bad(k, layout)
+        || head_bad(k, layout, common.head(k.operation), bits)
+        || is_off(k.operation, common.on)
+        || sightings_bad(k)
+        || tag_bad(k)
+        || is_full(k.operation, k.got)
 }

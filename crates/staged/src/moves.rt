@@ -2,65 +2,41 @@
 ghost use Rattle.std.specs.Prelude.{◌≡◌};
 ghost use Rattle.page.specs.Page.{lent};
 ghost use Rattle.staged.specs.Damage.{turn};
-ghost use Rattle.staged.specs.Moves.{moved, went, move_of};
+ghost use Rattle.staged.specs.Moves.{went, move_of};
 
+use crate::Common;
 use crate::damage::is_damaged;
 use crate::stages::{exchange, load, mask, swap, write};
-use answers::{BAD_PAGE, DAMAGED, IDLE};
-use operations::{EXCHANGING, LOADING, SWAPPING, WRITING, Worker, is_busy};
+use answers::Refusal;
+use operations::{EXCHANGING, LOADING, SWAPPING, WRITING, Worker};
+use page::Layout;
 
-// What a move gives back: its answer, the two head words and the worker's record.
-#[derive(Clone, Copy)]
-pub struct Moved {
-    pub number: u64,
-    pub value: u64,
-    pub shared: u64,
-    pub tagged: u64,
-    pub worker: Worker,
-}
-
-// A refusal: heads and record stay.
-fn refuse(number: u64, shared: u64, tagged: u64, k: Worker) -> Moved
-    ensures { result ≡ moved number 0 shared tagged k }
-{
-    Moved {
-        number,
-        value: 0,
-        shared,
-        tagged,
-        worker: k,
-    }
-}
-
-// Makes one move of a worker, by its stage.
+// Makes one move of a worker, by its stage: None while its operation is under way, its value where it ended.
+#[tactic(auto, unfolding(crate::specs::Moves::move_of, crate::specs::Moves::move_refusal, crate::specs::Moves::move_act, answers::specs::Rows::first))]
 pub fn make(
-    k: Worker,
-    n: u64,
-    bw: u64,
-    shared: u64,
-    tagged: u64,
-    on: bool,
+    k: &mut Worker,
+    common: &mut Common,
+    layout: Layout,
     flag: bool,
     page: &mut [u64],
     bits: &[u64],
-) -> Moved
-    ensures { went n bw on result page.new bits.now ≡ move_of (turn k shared tagged on (lent n bw page.old bits.now)) flag }
+) -> Result<Option<u64>, Refusal>
+    ensures { went layout.n layout.bw result k.new common.new page.new bits.now ≡ move_of (turn k.old common.old.shared common.old.tagged common.old.on (lent layout.n layout.bw page.old bits.now)) flag }
 {
-    if !page::fits(n, bw, page.len(), bits.len()) {
-        return refuse(BAD_PAGE, shared, tagged, k);
+    if !layout.fits(page.len(), bits.len()) {
+        return Err(Refusal::BadPage);
     }
-    if !is_busy(k) {
-        return refuse(IDLE, shared, tagged, k);
+    if !k.is_busy() {
+        return Err(Refusal::Idle);
     }
-    if is_damaged(k, n, bw, shared, tagged, on, bits) {
-        return refuse(DAMAGED, shared, tagged, k);
+    if is_damaged(k, common, layout, bits) {
+        return Err(Refusal::Damaged);
     }
-    let stage = k.stage;
-    match stage {
-        LOADING => load(shared, tagged, k),
-        WRITING => write(bw, shared, tagged, k, page),
-        EXCHANGING => exchange(bw, shared, tagged, k, flag),
-        SWAPPING => swap(bw, shared, tagged, k),
-        _ => mask(bw, shared, tagged, k),
-    }
+    Ok(match k.stage {
+        LOADING => load(k, common),
+        WRITING => write(k, layout, page),
+        EXCHANGING => exchange(k, common, layout, flag),
+        SWAPPING => swap(k, common, layout),
+        _ => mask(k, common, layout),
+    })
 }

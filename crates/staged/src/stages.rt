@@ -1,148 +1,114 @@
-// One function for each stage of a move: what it makes of the record, the two head words and, at write, the page. What some
-// of them require, the page rules and the damage test give.
-ghost use Rattle.std.specs.Prelude.{◌≡◌, Bool, List, ℕ, ◌≤◌};
-ghost use Rattle.answers.specs.Numbers.{done, under_way};
+// One function for each stage of a move: what it makes of the record, the two head words and, at write, the page. It gives the
+// value where the operation ends, and None while it is under way. What some of them require, the page rules and the damage
+// test give.
+ghost use Rattle.std.specs.Prelude.{◌≡◌, Bool, List, ℕ, Ok, Some, None, ◌≤◌};
 ghost use Rattle.page.specs.Limits.{max_blocks, max_width};
 ghost use Rattle.page.specs.Page.{Lent, lent};
-ghost use Rattle.staged.specs.Workers.{holding, saw, at_stage};
+ghost use Rattle.staged.specs.declared.Common.{Common};
+ghost use Rattle.staged.specs.Workers.{holding, saw};
 ghost use Rattle.staged.specs.Damage.{turn};
-ghost use Rattle.staged.specs.Moves.{Fitting, moved, leaves, went, fails_b, new_word, exchange_value, load_ask, load_await, load_act, write_act, exchange_act, swap_act, mask_act};
+ghost use Rattle.staged.specs.Moves.{Fitting, leaves, went, fails_b, new_word, exchange_value, load_ask, load_await, load_act, write_act, exchange_act, swap_act, mask_act};
 
-use crate::MAX_SIGHTINGS;
-use crate::moves::Moved;
-use answers::{DONE, UNDER_WAY};
+use crate::{Common, MAX_SIGHTINGS};
 use operations::choice::only_if;
 use operations::{
     ASK_TAG, EXCHANGING, LOADING, SET_TAG, SWAPPING, TAKE_SHARED, WRITING, Worker, on_shared,
-    pushes, word_of,
+    pushes,
 };
+use page::Layout;
 use words::{
     FREEING, NO_DELAYED_FREE, masked_ptr_delay_get_delay, masked_ptr_delay_get_ptr,
     masked_ptr_delay_set_delay, masked_ptr_delay_set_ptr,
 };
 
-// Under way with another record.
-fn goes_on(shared: u64, tagged: u64, k: Worker) -> Moved
-    ensures { result ≡ moved under_way 0 shared tagged k }
-{
-    Moved {
-        number: UNDER_WAY,
-        value: 0,
-        shared,
-        tagged,
-        worker: k,
-    }
-}
-
 // Ended with a value: got becomes a list, own stays, and every other field is 0.
-fn ends(value: u64, shared: u64, tagged: u64, k: Worker, got: u64) -> Moved
-    ensures { result ≡ moved done value shared tagged (holding k got) }
+fn ends(k: &mut Worker, got: u64, value: u64) -> Option<u64>
+    ensures record { k.new ≡ holding k.old got }
+    ensures value { result ≡ Some value }
 {
-    let worker = Worker {
-        own: k.own,
-        got,
-        operation: 0,
-        stage: 0,
-        tag: 0,
-        hand: 0,
-        seen: 0,
-        sightings: 0,
-    };
-    Moved {
-        number: DONE,
-        value,
-        shared,
-        tagged,
-        worker,
-    }
-}
-
-// The next move is another stage; nothing else changes.
-fn turns_to(to: u64, shared: u64, tagged: u64, k: Worker) -> Moved
-    ensures { result ≡ moved under_way 0 shared tagged (at_stage k to) }
-{
-    let mut next = k;
-    next.stage = to;
-    goes_on(shared, tagged, next)
+    *k = Worker::resting(k.own, got);
+    Some(value)
 }
 
 // The word is stored as the word seen, and the next move is another stage.
-fn sees(word: u64, stage: u64, shared: u64, tagged: u64, k: Worker) -> Moved
-    ensures { result ≡ moved under_way 0 shared tagged (saw k word stage) }
+fn sees(k: &mut Worker, word: u64, stage: u64) -> Option<u64>
+    ensures record { k.new ≡ saw k.old word stage }
+    ensures under_way { result ≡ None }
 {
-    let mut next = k;
-    next.stage = stage;
-    next.seen = word;
-    goes_on(shared, tagged, next)
+    k.stage = stage;
+    k.seen = word;
+    None
 }
 
 // A load of 11: tag 1 is a sighting, and the fifth ends it; tag 2 goes to an exchange; any other tag ends it.
-fn load_ask(word: u64, shared: u64, tagged: u64, k: Worker) -> Moved
-    ensures { (on : Bool) (l : Lent) → leaves result on l ≡ load_ask (turn k shared tagged on l) word }
+#[tactic(auto, unfolding(crate::specs::Moves::load_ask))]
+fn load_ask(k: &mut Worker, word: u64) -> Option<u64>
+    ensures { (c : Common) (l : Lent) → leaves (Ok result) k.new c l ≡ load_ask (turn k.old c.shared c.tagged c.on l) word }
 {
-    let tag = masked_ptr_delay_get_delay(word);
-    if tag == FREEING {
-        if MAX_SIGHTINGS <= k.sightings {
-            return ends(0, shared, tagged, k, k.got);
+    let got = k.got;
+    match masked_ptr_delay_get_delay(word) {
+        FREEING => {
+            if MAX_SIGHTINGS <= k.sightings {
+                return ends(k, got, 0);
+            }
+            k.sightings += 1;
+            sees(k, word, LOADING)
         }
-        let mut next = k;
-        next.stage = LOADING;
-        next.seen = word;
-        next.sightings = k.sightings + 1;
-        return goes_on(shared, tagged, next);
+        NO_DELAYED_FREE => sees(k, word, EXCHANGING),
+        _ => ends(k, got, 1),
     }
-    if tag == NO_DELAYED_FREE {
-        return sees(word, EXCHANGING, shared, tagged, k);
-    }
-    ends(1, shared, tagged, k, k.got)
 }
 
 // A load of 12: tag 1 loads again, any other tag is the value.
-fn load_await(word: u64, shared: u64, tagged: u64, k: Worker) -> Moved
-    ensures { (on : Bool) (l : Lent) → leaves result on l ≡ load_await (turn k shared tagged on l) word }
+#[tactic(auto, unfolding(crate::specs::Moves::load_await))]
+fn load_await(k: &mut Worker, word: u64) -> Option<u64>
+    ensures { (c : Common) (l : Lent) → leaves (Ok result) k.new c l ≡ load_await (turn k.old c.shared c.tagged c.on l) word }
 {
     let tag = masked_ptr_delay_get_delay(word);
     if tag == FREEING {
-        return sees(word, LOADING, shared, tagged, k);
+        return sees(k, word, LOADING);
     }
-    ends(tag, shared, tagged, k, k.got)
+    let got = k.got;
+    ends(k, got, tag)
 }
 
 // Loads the head word. It is stored as the word seen unless it ends the operation.
-pub fn load(shared: u64, tagged: u64, k: Worker) -> Moved
-    ensures { (on : Bool) (l : Lent) → leaves result on l ≡ load_act (turn k shared tagged on l) }
+#[tactic(auto, unfolding(crate::specs::Moves::load_act))]
+pub fn load(k: &mut Worker, common: &Common) -> Option<u64>
+    ensures { (l : Lent) → leaves (Ok result) k.new common.now l ≡ load_act (turn k.old common.now.shared common.now.tagged common.now.on l) }
 {
-    let operation = k.operation;
-    let word = word_of(operation, shared, tagged);
-    if pushes(operation) {
-        return sees(word, WRITING, shared, tagged, k);
+    let word = common.head(k.operation);
+    if pushes(k.operation) {
+        return sees(k, word, WRITING);
     }
-    if operation == TAKE_SHARED {
-        if word == 0 {
-            return ends(0, shared, tagged, k, k.got);
+    match k.operation {
+        TAKE_SHARED => {
+            if word == 0 {
+                let got = k.got;
+                return ends(k, got, 0);
+            }
+            sees(k, word, SWAPPING)
         }
-        return sees(word, SWAPPING, shared, tagged, k);
+        SET_TAG => sees(k, word, EXCHANGING),
+        ASK_TAG => load_ask(k, word),
+        _ => load_await(k, word),
     }
-    if operation == SET_TAG {
-        return sees(word, EXCHANGING, shared, tagged, k);
-    }
-    if operation == ASK_TAG {
-        return load_ask(word, shared, tagged, k);
-    }
-    load_await(word, shared, tagged, k)
 }
 
 // Writes the link of the block in hand: the address part of the word seen.
-pub fn write(bw: u64, shared: u64, tagged: u64, k: Worker, page: &mut [u64]) -> Moved
-    requires { (bw ≤ max_width) × (k.hand ≤ max_blocks) }
-    ensures { (n : ℕ) (on : Bool) (bits : List ℕ) → went n bw on result page.new bits ≡ write_act (turn k shared tagged on (lent n bw page.old bits)) }
+#[tactic(auto, using(crate::proofs::StageArms::placed), unfolding(crate::specs::Moves::write_act))]
+pub fn write(k: &mut Worker, layout: Layout, page: &mut [u64]) -> Option<u64>
+    requires { (layout.bw ≤ max_width) × (k.old.hand ≤ max_blocks) }
+    ensures { (c : Common) (bits : List ℕ) → went layout.n layout.bw (Ok result) k.new c page.new bits ≡ write_act (turn k.old c.shared c.tagged c.on (lent layout.n layout.bw page.old bits)) }
 {
     let link = masked_ptr_delay_get_ptr(k.seen);
-    page::set_link(page, page::address(bw, k.hand), link);
-    turns_to(EXCHANGING, shared, tagged, k)
+    page::set_link(page, layout.address(k.hand), link);
+    k.stage = EXCHANGING;
+    None
 }
 
 // Whether an exchange fails: the flag is set, or the head differs from the word seen.
+#[tactic(auto, unfolding(crate::specs::Moves::fails_b))]
 fn fails(head: u64, seen: u64, flag: bool) -> bool
     ensures { result ≡ fails_b head seen flag }
 {
@@ -150,56 +116,68 @@ fn fails(head: u64, seen: u64, flag: bool) -> bool
 }
 
 // The new head: a push's block with the tag seen, or the address seen with the tag wanted.
-fn new_word(k: Worker, bw: u64) -> u64
-    requires { Fitting k bw }
-    ensures { result ≡ new_word k bw }
+fn new_word(k: &Worker, layout: Layout) -> u64
+    requires { Fitting k.now layout.bw }
+    ensures { result ≡ new_word k.now layout.bw }
 {
     if pushes(k.operation) {
-        return masked_ptr_delay_set_ptr(k.seen, page::address(bw, k.hand)).value;
+        masked_ptr_delay_set_ptr(k.seen, layout.address(k.hand)).unwrap()
+    } else {
+        masked_ptr_delay_set_delay(k.seen, only_if(k.operation == SET_TAG, k.tag)).unwrap()
     }
-    masked_ptr_delay_set_delay(k.seen, only_if(k.operation == SET_TAG, k.tag)).value
 }
 
 // The value of an exchange: 1 for 11, else the tag before.
-fn exchange_value(k: Worker) -> u64
-    ensures { result ≡ exchange_value k }
+#[tactic(auto, unfolding(crate::specs::Moves::exchange_value))]
+fn exchange_value(k: &Worker) -> u64
+    ensures { result ≡ exchange_value k.now }
 {
     if k.operation == ASK_TAG {
-        return 1;
+        1
+    } else {
+        masked_ptr_delay_get_delay(k.seen)
     }
-    masked_ptr_delay_get_delay(k.seen)
 }
 
 // Exchanges the head. Where that fails, only the stage changes: the next move loads again.
-pub fn exchange(bw: u64, shared: u64, tagged: u64, k: Worker, flag: bool) -> Moved
-    requires { Fitting k bw }
-    ensures { (n : ℕ) (on : Bool) (page bits : List ℕ) → went n bw on result page bits ≡ exchange_act (turn k shared tagged on (lent n bw page bits)) flag }
+#[tactic(auto, unfolding(crate::specs::Moves::exchange_act))]
+pub fn exchange(k: &mut Worker, common: &mut Common, layout: Layout, flag: bool) -> Option<u64>
+    requires { Fitting k.old layout.bw }
+    ensures { (page bits : List ℕ) → went layout.n layout.bw (Ok result) k.new common.new page bits ≡ exchange_act (turn k.old common.old.shared common.old.tagged common.old.on (lent layout.n layout.bw page bits)) flag }
 {
-    if fails(word_of(k.operation, shared, tagged), k.seen, flag) {
-        return turns_to(LOADING, shared, tagged, k);
+    if fails(common.head(k.operation), k.seen, flag) {
+        k.stage = LOADING;
+        return None;
     }
-    let word = new_word(k, bw);
-    let value = exchange_value(k);
+    let word = new_word(k, layout);
     if on_shared(k.operation) {
-        return ends(value, word, tagged, k, k.got);
+        common.shared = word;
+    } else {
+        common.tagged = word;
     }
-    ends(value, shared, word, k, k.got)
+    let got = k.got;
+    let value = exchange_value(k);
+    ends(k, got, value)
 }
 
 // Takes S: got becomes what was there, and S 0.
-pub fn swap(bw: u64, shared: u64, tagged: u64, k: Worker) -> Moved
-    requires { (1 ≤ bw) × (bw ≤ max_width) }
-    ensures { (n : ℕ) (on : Bool) (page bits : List ℕ) → went n bw on result page bits ≡ swap_act (turn k shared tagged on (lent n bw page bits)) }
+#[tactic(auto, using(page::proofs::Rules::block_within), unfolding(crate::specs::Moves::swap_act))]
+pub fn swap(k: &mut Worker, common: &mut Common, layout: Layout) -> Option<u64>
+    requires { (1 ≤ layout.bw) × (layout.bw ≤ max_width) }
+    ensures { (page bits : List ℕ) → went layout.n layout.bw (Ok result) k.new common.new page bits ≡ swap_act (turn k.old common.old.shared common.old.tagged common.old.on (lent layout.n layout.bw page bits)) }
 {
-    ends(page::block(bw, shared), 0, tagged, k, shared)
+    let head = common.shared;
+    common.shared = 0;
+    ends(k, head, layout.block(head))
 }
 
 // Takes T: got becomes the address part, and T keeps only its tag.
-pub fn mask(bw: u64, shared: u64, tagged: u64, k: Worker) -> Moved
-    requires { (1 ≤ bw) × (bw ≤ max_width) }
-    ensures { (n : ℕ) (on : Bool) (page bits : List ℕ) → went n bw on result page bits ≡ mask_act (turn k shared tagged on (lent n bw page bits)) }
+#[tactic(auto, using(page::proofs::Rules::block_within), unfolding(crate::specs::Moves::mask_act))]
+pub fn mask(k: &mut Worker, common: &mut Common, layout: Layout) -> Option<u64>
+    requires { (1 ≤ layout.bw) × (layout.bw ≤ max_width) }
+    ensures { (page bits : List ℕ) → went layout.n layout.bw (Ok result) k.new common.new page bits ≡ mask_act (turn k.old common.old.shared common.old.tagged common.old.on (lent layout.n layout.bw page bits)) }
 {
-    let address = masked_ptr_delay_get_ptr(tagged);
-    let tag = masked_ptr_delay_get_delay(tagged);
-    ends(page::block(bw, address), shared, tag, k, address)
+    let address = masked_ptr_delay_get_ptr(common.tagged);
+    common.tagged = masked_ptr_delay_get_delay(common.tagged);
+    ends(k, address, layout.block(address))
 }

@@ -1,90 +1,73 @@
-// The start of requests 6 to 12: refused with 4, 5, 7, 8 or 9, or answered 1 with the record set afresh. No public function
+// The start of requests 6 to 12: refused with 4, 5, 7, 8 or 9, or under way with the record set afresh. No public function
 // has a requires.
 ghost use Rattle.std.specs.Prelude.{◌≡◌};
-ghost use Rattle.answers.specs.Numbers.{under_way};
 ghost use Rattle.staged.specs.Workers.{begun};
-ghost use Rattle.staged.specs.Start.{starter, begins, started, start_fits_b, start_of};
+ghost use Rattle.staged.specs.Start.{starter, started, start_fits_b, start_of};
 
 use crate::MAX_TAG;
-use answers::{BUSY, LISTED, NO_SUCH, NOT_EMPTY, SWITCHED, UNDER_WAY};
+use answers::Refusal;
 use operations::choice::only_if;
-use operations::{SET_TAG, Worker, first_stage, is_busy, is_full, is_off, is_staged, pushes};
-
-// What a start gives back.
-#[derive(Clone, Copy)]
-pub struct Begun {
-    pub number: u64,
-    pub value: u64,
-    pub worker: Worker,
-}
+use operations::{SET_TAG, Worker, first_stage, is_full, is_off, is_staged, pushes};
+use page::Layout;
 
 // Whether there is such an operation, and it has the block or the tag that it asks for.
-pub fn start_fits(n: u64, operation: u64, a: u64) -> bool
-    ensures { result ≡ start_fits_b n operation a }
+#[tactic(auto, unfolding(crate::specs::Start::start_fits_b))]
+pub fn start_fits(layout: Layout, operation: u64, a: u64) -> bool
+    ensures { result ≡ start_fits_b layout.n operation a }
 {
     if pushes(operation) {
-        return page::is_block(n, a);
-    }
-    if operation == SET_TAG {
-        return a <= MAX_TAG;
-    }
-    is_staged(operation)
-}
-
-// A refusal: the record stays.
-fn refuse(k: Worker, number: u64) -> Begun
-    ensures { result ≡ begins number k }
-{
-    Begun {
-        number,
-        value: 0,
-        worker: k,
+        layout.is_block(a)
+    } else if operation == SET_TAG {
+        a <= MAX_TAG
+    } else {
+        is_staged(operation)
     }
 }
 
-// The operation is under way: own and got stay, every other field is set afresh.
-fn begin(k: Worker, operation: u64, a: u64) -> Begun
-    ensures { result ≡ begins under_way (begun k operation a) }
+// The record with an operation under way: own and got stay, every other field is set afresh.
+#[tactic(auto, unfolding(crate::specs::Workers::begun))]
+fn begun(k: &Worker, operation: u64, a: u64) -> Worker
+    ensures { result ≡ begun k.now operation a }
 {
-    let worker = Worker {
-        own: k.own,
-        got: k.got,
+    Worker {
         operation,
         stage: first_stage(operation),
         tag: only_if(operation == SET_TAG, a),
         hand: only_if(pushes(operation), a),
-        seen: 0,
-        sightings: 0,
-    };
-    Begun {
-        number: UNDER_WAY,
-        value: 0,
-        worker,
+        ..Worker::resting(k.own, k.got)
     }
 }
 
 // Starts an operation. A push takes its block in hand: the block's bit is set.
-pub fn start(k: Worker, n: u64, on: bool, bits: &mut [u64], operation: u64, a: u64) -> Begun
-    ensures { started result bits.new ≡ start_of n on (starter k bits.old) operation a }
+#[tactic(auto, unfolding(crate::specs::Start::start_of, crate::specs::Start::start_refusal, crate::specs::Start::start_act, answers::specs::Rows::first))]
+pub fn start(
+    k: &mut Worker,
+    layout: Layout,
+    on: bool,
+    bits: &mut [u64],
+    operation: u64,
+    a: u64,
+) -> Result<(), Refusal>
+    ensures { started result k.new bits.new ≡ start_of layout.n on (starter k.old bits.old) operation a }
 {
-    if !start_fits(n, operation, a) {
-        return refuse(k, NO_SUCH);
+    if !start_fits(layout, operation, a) {
+        return Err(Refusal::NoSuch);
     }
-    if is_busy(k) {
-        return refuse(k, BUSY);
+    if k.is_busy() {
+        return Err(Refusal::Busy);
     }
     if is_off(operation, on) {
-        return refuse(k, SWITCHED);
+        return Err(Refusal::Switched);
     }
     if is_full(operation, k.got) {
-        return refuse(k, NOT_EMPTY);
+        return Err(Refusal::NotEmpty);
     }
-    if !pushes(operation) {
-        return begin(k, operation, a);
+    if pushes(operation) {
+        if bitmap::is_set(bits, a) {
+            return Err(Refusal::Listed);
+        }
+        bitmap::set(bits, a);
     }
-    if bitmap::is_set(bits, a) {
-        return refuse(k, LISTED);
-    }
-    bitmap::set(bits, a);
-    begin(k, operation, a)
+    *k = begun(k, operation, a);
+    Ok(())
 }
