@@ -1,19 +1,18 @@
 -- Where the damage test does not hold none of its parts does, and what that gives a move. Assumes nothing.
-use Prim.Native.Nat.{ℕ, zero, suc, ◌+◌, ◌≤◌}
+use Prim.Native.Nat.{ℕ, zero, suc, ◌≤◌}
 use mathlib.Core.Path.{◌≡◌, refl, sym, ap, ◌∙◌}
-use mathlib.Core.Bool.{Bool, true, false, not, ◌&&◌, ◌||◌, or-false}
+use mathlib.Core.Bool.{Bool, true, false, not, ◌&&◌, ◌||◌}
 use mathlib.Core.List.{List, [], ◌∷◌}
 use native.Mathlib.Omega.{arith}
-use native.Mathlib.Numerals.{add-one}
 use lib.Dec.{eqb}
-use lib.ListN.{get_or, drop}
+use lib.ListN.{get_or}
 use borrow.Author.Tests.{eqb-true, ltb-false, not-false}
 use Rattle.answers.proofs.Rows.{and_left, and_right}
 use Rattle.page.specs.Limits.{max_blocks}
 use Rattle.page.specs.Page.{Rules, block_b, listed_b}
 use Rattle.page.specs.Sequences.{Listed}
 use Rattle.page.proofs.Rules.{block-facts}
-use Rattle.operations.specs.Operations.{set_tag, pushes_b, full_b, writing, paired_b}
+use Rattle.operations.specs.Operations.{set_tag, pushes_b, writing, paired_b}
 use Rattle.operations.proofs.PairArms.{writing-pushes}
 use Rattle.staged.specs.Workers.{max_tag}
 use Rattle.staged.specs.Damage.{Turn, any, hand_bad, tag_bad, damage_tests, damaged_b}

@@ -1,6 +1,5 @@
 -- The statements of `Readings`, proved. Assumes nothing.
-use mathlib.Core.Path.{refl, sym, ap, ◌∙◌}
-use Rattle.std.proofs.Common.{ℕ, Option, Some, None, Result, Ok, Err, ◌≡◌}
+use mathlib.Core.Path.{refl}
 use Rattle.staged.specs.Readings.{StartIsRead, MoveIsRead}
 
 pub start-is-read : StartIsRead

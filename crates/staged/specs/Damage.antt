@@ -4,6 +4,7 @@ use Rattle.words.specs.Tagged.{tag_of, address_of}
 use Rattle.page.specs.Page.{Lent, block_b, listed_b, good_b, sound_b}
 use Rattle.operations.specs.declared.Worker.{Worker}
 use Rattle.operations.specs.Operations.{pushes_b, on_shared_b, word_of, off_b, full_b, set_tag, ask_tag, reads_head_b, uses_seen_b, paired_b}
+use Rattle.staged.specs.declared.Common.{Common}
 use Rattle.staged.specs.Workers.{max_tag, max_sightings}
 
 -- one worker's record, the two head words, the switch, and what is lent
@@ -16,6 +17,10 @@ pub record Turn : Type 0 where
 
 abbrev pub turn : Worker → ℕ → ℕ → Bool → Lent → Turn
 turn k shared tagged on l = record { worker = k; shared = shared; tagged = tagged; on = on; lent = l }
+
+-- the same, as the code has it
+abbrev pub turn_of : Worker → Common → Lent → Turn
+turn_of k c l = turn k c.shared c.tagged c.on l
 
 -- the head word of the operation under way
 abbrev pub head_word : Turn → ℕ

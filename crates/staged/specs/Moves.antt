@@ -12,13 +12,13 @@ use Rattle.operations.specs.declared.Worker.{Worker}
 use Rattle.operations.specs.Operations.{pushes_b, on_shared_b, take_shared, set_tag, ask_tag, loading, writing, exchanging, swapping, busy_b}
 use Rattle.staged.specs.declared.Common.{Common}
 use Rattle.staged.specs.Workers.{max_tag, max_sightings, rested, holding, saw, sighted, at_stage}
-use Rattle.staged.specs.Damage.{Turn, turn, head_word, damaged_b}
+use Rattle.staged.specs.Damage.{Turn, turn, turn_of, head_word, damaged_b}
 
 -- ---- what a move leaves
 
 -- what a move gives back and leaves of the record and of what the workers share, with what is lent
 abbrev pub leaves : Result (Option ℕ) Refusal → Worker → Common → Lent → Outcome Turn
-leaves r k c l = outcome (progress r).number (progress r).value (turn k c.shared c.tagged c.on l)
+leaves r k c l = outcome (progress r).number (progress r).value (turn_of k c l)
 
 -- the same, with what the slices hold then
 abbrev pub went : ℕ → ℕ → Result (Option ℕ) Refusal → Worker → Common → List ℕ → List ℕ → Outcome Turn

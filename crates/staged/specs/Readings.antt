@@ -1,6 +1,6 @@
 -- How the contracts of `start` and `make` read what a call is lent and what it gives back: each field is what its name
 -- says, so that what the other statements say of a configuration, they say of the code. No proof stands in this file.
-use Rattle.std.specs.Prelude.{ℕ, ◌≡◌, Bool, List, Option, Some, None, Result, Ok, Err}
+use Rattle.std.specs.Prelude.{ℕ, ◌≡◌, List, Option, Some, None, Result, Ok, Err}
 use Rattle.answers.specs.declared.Refusal.{Refusal}
 use Rattle.answers.specs.Refusals.{number_of}
 use Rattle.answers.specs.Rows.{Outcome}
@@ -8,7 +8,7 @@ use Rattle.page.specs.Page.{lent}
 use Rattle.operations.specs.declared.Worker.{Worker}
 use Rattle.staged.specs.declared.Common.{Common}
 use Rattle.staged.specs.Start.{Starter, starter, started}
-use Rattle.staged.specs.Damage.{Turn, turn}
+use Rattle.staged.specs.Damage.{Turn, turn_of}
 use Rattle.staged.specs.Moves.{went}
 
 -- An accepted start is under way with value 0, and a refused one has its refusal's number and value 0.
@@ -57,4 +57,4 @@ pub record MoveRead (k then : Worker) (x y : Common) (n bw : ℕ) (page after bi
 abbrev pub MoveIsRead : Type 0
 MoveIsRead =
     (k then : Worker) (x y : Common) (n bw : ℕ) (page after bits : List ℕ) (r : Result (Option ℕ) Refusal)
-    → MoveRead k then x y n bw page after bits r (turn k x.shared x.tagged x.on (lent n bw page bits)) (went n bw r then y after bits)
+    → MoveRead k then x y n bw page after bits r (turn_of k x (lent n bw page bits)) (went n bw r then y after bits)

@@ -1,7 +1,7 @@
 // When a move finds its operation damaged: one test for each case, and all of them.
 ghost use Rattle.std.specs.Prelude.{◌≡◌, List, ℕ};
 ghost use Rattle.page.specs.Page.{lent};
-ghost use Rattle.staged.specs.Damage.{turn, hand_bad, tag_bad, sightings_bad, tag_on_shared, head_bad, seen_bad, damaged_b};
+ghost use Rattle.staged.specs.Damage.{turn_of, hand_bad, tag_bad, sightings_bad, tag_on_shared, head_bad, seen_bad, damaged_b};
 
 use crate::{Common, MAX_SIGHTINGS, MAX_TAG};
 use operations::choice::is_one_of;
@@ -66,7 +66,7 @@ fn tag_bad(k: &Worker) -> bool
 // Whether a move finds its operation damaged, whatever stands in the page.
 #[tactic(auto, unfolding(crate::specs::Damage::damaged_b, crate::specs::Damage::any))]
 pub fn is_damaged(k: &Worker, common: &Common, layout: Layout, bits: &[u64]) -> bool
-    ensures { (page : List ℕ) → result ≡ damaged_b (turn k.now common.now.shared common.now.tagged common.now.on (lent layout.n layout.bw page bits.now)) }
+    ensures { (page : List ℕ) → result ≡ damaged_b (turn_of k.now common.now (lent layout.n layout.bw page bits.now)) }
 {
     !is_paired(k.operation, k.stage)
         || hand_bad(k, layout, bits)

@@ -1,7 +1,7 @@
 // One move of a worker. No public function has a requires.
 ghost use Rattle.std.specs.Prelude.{◌≡◌};
 ghost use Rattle.page.specs.Page.{lent};
-ghost use Rattle.staged.specs.Damage.{turn};
+ghost use Rattle.staged.specs.Damage.{turn_of};
 ghost use Rattle.staged.specs.Moves.{went, move_of};
 
 use crate::Common;
@@ -21,7 +21,7 @@ pub fn make(
     page: &mut [u64],
     bits: &[u64],
 ) -> Result<Option<u64>, Refusal>
-    ensures { went layout.n layout.bw result k.new common.new page.new bits.now ≡ move_of (turn k.old common.old.shared common.old.tagged common.old.on (lent layout.n layout.bw page.old bits.now)) flag }
+    ensures { went layout.n layout.bw result k.new common.new page.new bits.now ≡ move_of (turn_of k.old common.old (lent layout.n layout.bw page.old bits.now)) flag }
 {
     if !layout.fits(page.len(), bits.len()) {
         return Err(Refusal::BadPage);

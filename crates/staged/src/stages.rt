@@ -5,15 +5,15 @@ ghost use Rattle.std.specs.Prelude.{◌≡◌, Bool, List, ℕ, Ok, Some, None, 
 ghost use Rattle.page.specs.Limits.{max_blocks, max_width};
 ghost use Rattle.page.specs.Page.{Lent, lent};
 ghost use Rattle.staged.specs.declared.Common.{Common};
-ghost use Rattle.staged.specs.Workers.{holding, saw};
-ghost use Rattle.staged.specs.Damage.{turn};
+ghost use Rattle.staged.specs.Workers.{rested, saw};
+ghost use Rattle.staged.specs.Damage.{turn_of};
 ghost use Rattle.staged.specs.Moves.{Fitting, leaves, went, fails_b, new_word, exchange_value, load_ask, load_await, load_act, write_act, exchange_act, swap_act, mask_act};
 
 use crate::{Common, MAX_SIGHTINGS};
 use operations::choice::only_if;
 use operations::{
-    ASK_TAG, EXCHANGING, LOADING, SET_TAG, SWAPPING, TAKE_SHARED, WRITING, Worker, on_shared,
-    pushes,
+    ASK_TAG, EXCHANGING, LOADING, PUSH_SHARED, PUSH_TAGGED, SET_TAG, SWAPPING, TAKE_SHARED,
+    WRITING, Worker, on_shared, pushes,
 };
 use page::Layout;
 use words::{
@@ -21,12 +21,12 @@ use words::{
     masked_ptr_delay_set_delay, masked_ptr_delay_set_ptr,
 };
 
-// Ended with a value: got becomes a list, own stays, and every other field is 0.
-fn ends(k: &mut Worker, got: u64, value: u64) -> Option<u64>
-    ensures record { k.new ≡ holding k.old got }
+// Ended with a value: own and got stay, and every other field is 0.
+fn ends(k: &mut Worker, value: u64) -> Option<u64>
+    ensures record { k.new ≡ rested k.old }
     ensures value { result ≡ Some value }
 {
-    *k = Worker::resting(k.own, got);
+    *k = Worker::resting(k.own, k.got);
     Some(value)
 }
 
@@ -43,52 +43,40 @@ fn sees(k: &mut Worker, word: u64, stage: u64) -> Option<u64>
 // A load of 11: tag 1 is a sighting, and the fifth ends it; tag 2 goes to an exchange; any other tag ends it.
 #[tactic(auto, unfolding(crate::specs::Moves::load_ask))]
 fn load_ask(k: &mut Worker, word: u64) -> Option<u64>
-    ensures { (c : Common) (l : Lent) → leaves (Ok result) k.new c l ≡ load_ask (turn k.old c.shared c.tagged c.on l) word }
+    ensures { (c : Common) (l : Lent) → leaves (Ok result) k.new c l ≡ load_ask (turn_of k.old c l) word }
 {
-    let got = k.got;
     match masked_ptr_delay_get_delay(word) {
+        FREEING if MAX_SIGHTINGS <= k.sightings => ends(k, 0),
         FREEING => {
-            if MAX_SIGHTINGS <= k.sightings {
-                return ends(k, got, 0);
-            }
             k.sightings += 1;
             sees(k, word, LOADING)
         }
         NO_DELAYED_FREE => sees(k, word, EXCHANGING),
-        _ => ends(k, got, 1),
+        _ => ends(k, 1),
     }
 }
 
 // A load of 12: tag 1 loads again, any other tag is the value.
 #[tactic(auto, unfolding(crate::specs::Moves::load_await))]
 fn load_await(k: &mut Worker, word: u64) -> Option<u64>
-    ensures { (c : Common) (l : Lent) → leaves (Ok result) k.new c l ≡ load_await (turn k.old c.shared c.tagged c.on l) word }
+    ensures { (c : Common) (l : Lent) → leaves (Ok result) k.new c l ≡ load_await (turn_of k.old c l) word }
 {
-    let tag = masked_ptr_delay_get_delay(word);
-    if tag == FREEING {
-        return sees(k, word, LOADING);
+    match masked_ptr_delay_get_delay(word) {
+        FREEING => sees(k, word, LOADING),
+        tag => ends(k, tag),
     }
-    let got = k.got;
-    ends(k, got, tag)
 }
 
 // Loads the head word. It is stored as the word seen unless it ends the operation.
-#[tactic(auto, unfolding(crate::specs::Moves::load_act))]
+#[tactic(auto, unfolding(crate::specs::Moves::load_act, operations::specs::Operations::pushes_b))]
 pub fn load(k: &mut Worker, common: &Common) -> Option<u64>
-    ensures { (l : Lent) → leaves (Ok result) k.new common.now l ≡ load_act (turn k.old common.now.shared common.now.tagged common.now.on l) }
+    ensures { (l : Lent) → leaves (Ok result) k.new common.now l ≡ load_act (turn_of k.old common.now l) }
 {
     let word = common.head(k.operation);
-    if pushes(k.operation) {
-        return sees(k, word, WRITING);
-    }
     match k.operation {
-        TAKE_SHARED => {
-            if word == 0 {
-                let got = k.got;
-                return ends(k, got, 0);
-            }
-            sees(k, word, SWAPPING)
-        }
+        PUSH_SHARED | PUSH_TAGGED => sees(k, word, WRITING),
+        TAKE_SHARED if word == 0 => ends(k, 0),
+        TAKE_SHARED => sees(k, word, SWAPPING),
         SET_TAG => sees(k, word, EXCHANGING),
         ASK_TAG => load_ask(k, word),
         _ => load_await(k, word),
@@ -99,7 +87,7 @@ pub fn load(k: &mut Worker, common: &Common) -> Option<u64>
 #[tactic(auto, using(crate::proofs::StageArms::placed), unfolding(crate::specs::Moves::write_act))]
 pub fn write(k: &mut Worker, layout: Layout, page: &mut [u64]) -> Option<u64>
     requires { (layout.bw ≤ max_width) × (k.old.hand ≤ max_blocks) }
-    ensures { (c : Common) (bits : List ℕ) → went layout.n layout.bw (Ok result) k.new c page.new bits ≡ write_act (turn k.old c.shared c.tagged c.on (lent layout.n layout.bw page.old bits)) }
+    ensures { (c : Common) (bits : List ℕ) → went layout.n layout.bw (Ok result) k.new c page.new bits ≡ write_act (turn_of k.old c (lent layout.n layout.bw page.old bits)) }
 {
     let link = masked_ptr_delay_get_ptr(k.seen);
     page::set_link(page, layout.address(k.hand), link);
@@ -143,7 +131,7 @@ fn exchange_value(k: &Worker) -> u64
 #[tactic(auto, unfolding(crate::specs::Moves::exchange_act))]
 pub fn exchange(k: &mut Worker, common: &mut Common, layout: Layout, flag: bool) -> Option<u64>
     requires { Fitting k.old layout.bw }
-    ensures { (page bits : List ℕ) → went layout.n layout.bw (Ok result) k.new common.new page bits ≡ exchange_act (turn k.old common.old.shared common.old.tagged common.old.on (lent layout.n layout.bw page bits)) flag }
+    ensures { (page bits : List ℕ) → went layout.n layout.bw (Ok result) k.new common.new page bits ≡ exchange_act (turn_of k.old common.old (lent layout.n layout.bw page bits)) flag }
 {
     if fails(common.head(k.operation), k.seen, flag) {
         k.stage = LOADING;
@@ -155,29 +143,28 @@ pub fn exchange(k: &mut Worker, common: &mut Common, layout: Layout, flag: bool)
     } else {
         common.tagged = word;
     }
-    let got = k.got;
     let value = exchange_value(k);
-    ends(k, got, value)
+    ends(k, value)
 }
 
 // Takes S: got becomes what was there, and S 0.
 #[tactic(auto, using(page::proofs::Rules::block_within), unfolding(crate::specs::Moves::swap_act))]
 pub fn swap(k: &mut Worker, common: &mut Common, layout: Layout) -> Option<u64>
     requires { (1 ≤ layout.bw) × (layout.bw ≤ max_width) }
-    ensures { (page bits : List ℕ) → went layout.n layout.bw (Ok result) k.new common.new page bits ≡ swap_act (turn k.old common.old.shared common.old.tagged common.old.on (lent layout.n layout.bw page bits)) }
+    ensures { (page bits : List ℕ) → went layout.n layout.bw (Ok result) k.new common.new page bits ≡ swap_act (turn_of k.old common.old (lent layout.n layout.bw page bits)) }
 {
-    let head = common.shared;
+    k.got = common.shared;
     common.shared = 0;
-    ends(k, head, layout.block(head))
+    ends(k, layout.block(k.got))
 }
 
 // Takes T: got becomes the address part, and T keeps only its tag.
 #[tactic(auto, using(page::proofs::Rules::block_within), unfolding(crate::specs::Moves::mask_act))]
 pub fn mask(k: &mut Worker, common: &mut Common, layout: Layout) -> Option<u64>
     requires { (1 ≤ layout.bw) × (layout.bw ≤ max_width) }
-    ensures { (page bits : List ℕ) → went layout.n layout.bw (Ok result) k.new common.new page bits ≡ mask_act (turn k.old common.old.shared common.old.tagged common.old.on (lent layout.n layout.bw page bits)) }
+    ensures { (page bits : List ℕ) → went layout.n layout.bw (Ok result) k.new common.new page bits ≡ mask_act (turn_of k.old common.old (lent layout.n layout.bw page bits)) }
 {
-    let address = masked_ptr_delay_get_ptr(common.tagged);
+    k.got = masked_ptr_delay_get_ptr(common.tagged);
     common.tagged = masked_ptr_delay_get_delay(common.tagged);
-    ends(k, address, layout.block(address))
+    ends(k, layout.block(k.got))
 }

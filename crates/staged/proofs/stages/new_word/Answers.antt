@@ -1,5 +1,4 @@
 -- The words are set, since what they are set to fits.
-use Rattle.std.proofs.Common.{◌≡◌}
 use Rattle.answers.proofs.Rows.{by}
 use Rattle.staged.proofs.StageArms.{push-word, tag_word}
 use Rattle.staged.proofs.stages.new_word.Goals as goal
