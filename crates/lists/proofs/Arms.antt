@@ -9,7 +9,7 @@ use lib.Dec.{leb, eqb}
 use lib.ListN.{set}
 use Rattle.answers.specs.Numbers.{done, bad_page, no_such, listed, none_left, damaged}
 use Rattle.answers.specs.Rows.{row, outcome}
-use Rattle.answers.proofs.Rows.{by, tried, tried-is}
+use Rattle.answers.proofs.Rows.{tried, tried-is}
 use Rattle.bitmap.specs.Bitmap.{bit_put, any_set, put_run, run_length}
 use Rattle.page.specs.declared.Walked.{Walked}
 use Rattle.page.specs.Limits.{max_blocks, max_width}
@@ -18,14 +18,10 @@ use Rattle.page.specs.Walk.{last_of, tally}
 use Rattle.page.specs.Sequences.{one, up_from, head_of, laid}
 use Rattle.page.proofs.Rules.{run-facts, address-within, address_is, block-is, address-place}
 use Rattle.page.proofs.Running.{told-ends, told-count, told-last}
-use Rattle.lists.specs.declared.Heads.{Heads}
-use Rattle.lists.specs.Lists.{Lists, came}
+use Rattle.std.proofs.Common.{Some}
+use Rattle.lists.specs.Lists.{Lists}
 use Rattle.lists.specs.Own.{with, insert_act, insert_refusal, insert_of, pop_act, pop_refusal, pop_of, got_walk, append_act, append_refusal, append_of, extend_act, extend_refusal, extend_of, own_walk, clear_all, blocks_from, release_act, release_refusal, release_of, empty_act, empty_refusal, empty_of}
 use Rattle.lists.proofs.Walks.{walk-blocks, walk-last}
-
--- what came, by the heads given back
-pub came-by : {n bw : ℕ} {r s : Heads} {page bits : List ℕ} → r ≡ s → came n bw r page bits ≡ came n bw s page bits
-came-by e = simp e
 
 -- ---- 1. insert
 
@@ -64,12 +60,11 @@ module _ (c : Lists) where
 -- ---- 3. append
 
 module _ (c : Lists) where
-  -- by the page rules, got's being empty, own's head, and the walk of got
-  pub append-is : {b2 b0 b11 b11' : Bool} {m : Walked} → keeps_rules_b c.lent ≡ b2 → eqb c.got 0 ≡ b0 → sound_in c.lent c.own ≡ b11
-      → m ≡ tally 0 0 (got_walk c) → m.sound ≡ b11'
+  -- by the page rules, got's being empty, own's head, and whether the walk of got came to 0
+  pub append-is : {b2 b0 b11 b11' : Bool} → keeps_rules_b c.lent ≡ b2 → eqb c.got 0 ≡ b0 → sound_in c.lent c.own ≡ b11 → (got_walk c).ends ≡ b11'
       → tried c (append_act c) (row bad_page (not b2) ∷ row damaged (not b0 && not b11) ∷ row damaged (not b0 && not b11') ∷ []) ≡ append_of c
   unfolding append_of append_refusal
-  append-is p q r e t = simp (← p, ← q, ← r, ← t, told-ends (got_walk c) e) (tried-is c (append_act c) _ refl)
+  append-is p q r t = simp (← p, ← q, ← r, ← t) (tried-is c (append_act c) _ refl)
 
   -- of an empty got nothing comes
   pub append-none : eqb c.got 0 ≡ true → outcome done 0 c ≡ append_act c
@@ -77,14 +72,13 @@ module _ (c : Lists) where
   append-none e = simp e
 
   -- the walk, the last block's address and its link written
-  pub append-acts : {m : Walked} {to : ℕ} {page : List ℕ} → Rules c.lent → eqb c.got 0 ≡ false → m ≡ tally 0 0 (got_walk c) → m.sound ≡ true
+  pub append-acts : {m : Walked} {to : ℕ} {page : List ℕ} → Rules c.lent → eqb c.got 0 ≡ false → Some m ≡ tally 0 0 (got_walk c)
       → to ≡ cond (leb c.lent.bw max_width && leb m.last max_blocks) (address_of c.lent.bw m.last) 0
       → page ≡ set c.lent.page (to / 8) c.own → outcome done m.count (with c c.got 0 page c.lent.bits) ≡ append_act c
   unfolding append_act
-  append-acts g z e t p q =
+  append-acts g z e p q =
       let w = got_walk c in
-      let f = by (told-ends w e) t in
-      simp (z, q, p, told-count w e f, told-last w e f, address_is c.lent (last_of 0 w.blocks) g (walk-last c.lent c.got f), address-place)
+      simp (z, q, p, told-count w e, told-last w e, address_is c.lent (last_of 0 w.blocks) g (walk-last c.lent c.got (told-ends w e)), address-place)
 
 -- ---- 4. extend
 
@@ -112,21 +106,20 @@ module _ (c : Lists) (a b : ℕ) where
 -- ---- 5. release
 
 module _ (c : Lists) where
-  -- by the page rules, and the walk of own
-  pub release-is : {b2 b11 : Bool} {m : Walked} → keeps_rules_b c.lent ≡ b2 → m ≡ tally 0 0 (own_walk c) → m.sound ≡ b11
+  -- by the page rules, and whether the walk of own came to 0
+  pub release-is : {b2 b11 : Bool} → keeps_rules_b c.lent ≡ b2 → (own_walk c).ends ≡ b11
       → tried c (release_act c) (row bad_page (not b2) ∷ row damaged (not b11) ∷ []) ≡ release_of c
   unfolding release_of release_refusal
-  release-is p e t = simp (← p, ← t, told-ends (own_walk c) e) (tried-is c (release_act c) _ refl)
+  release-is p t = simp (← p, ← t) (tried-is c (release_act c) _ refl)
 
   -- the walk, and as many blocks from own's head on cleared
-  pub release-acts : {m : Walked} {bits : List ℕ} → Rules c.lent → m ≡ tally 0 0 (own_walk c) → m.sound ≡ true
+  pub release-acts : {m : Walked} {bits : List ℕ} → Rules c.lent → Some m ≡ tally 0 0 (own_walk c)
       → bits ≡ clear_all c.lent.bits (blocks_from c.lent.bw c.lent.page m.count c.own)
       → outcome done m.count (with c 0 c.got c.lent.page bits) ≡ release_act c
   unfolding release_act
-  release-acts g e t p =
+  release-acts g e p =
       let w = own_walk c in
-      let f = by (told-ends w e) t in
-      simp (p, told-count w e f, walk-blocks c.lent g c.own f)
+      simp (p, told-count w e, walk-blocks c.lent g c.own (told-ends w e))
 
 -- ---- 13. whether own is empty
 

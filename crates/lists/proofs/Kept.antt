@@ -13,7 +13,7 @@ use Rattle.answers.proofs.Rows.{first-none, unless-either}
 use Rattle.bitmap.specs.Bitmap.{bit_at, bit_put, put_run}
 use Rattle.bitmap.proofs.Bits.{at-put-other, put-length}
 use Rattle.bitmap.proofs.Ranges.{run-length, run-before, run-after}
-use Rattle.page.specs.Page.{Lent, lent, place, block_of}
+use Rattle.page.specs.Page.{Lent, place, block_of}
 use Rattle.page.specs.Keeps.{NoLink, Keeps}
 use Rattle.page.specs.Walk.{last_of}
 use Rattle.page.specs.Sequences.{Each, up_from, Listed, Runs}

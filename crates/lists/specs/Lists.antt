@@ -1,5 +1,7 @@
 -- A worker's two lists in what is lent, and what comes of a call on them.
-use Rattle.std.specs.Prelude.{ℕ, List}
+use Rattle.std.specs.Prelude.{ℕ, List, Result}
+use Rattle.answers.specs.declared.Refusal.{Refusal}
+use Rattle.answers.specs.Refusals.{told}
 use Rattle.answers.specs.Rows.{Outcome, outcome}
 use Rattle.page.specs.Page.{Lent, lent}
 use Rattle.lists.specs.declared.Heads.{Heads}
@@ -13,10 +15,6 @@ pub record Lists : Type 0 where
 abbrev pub lists : ℕ → ℕ → ℕ → ℕ → List ℕ → List ℕ → Lists
 lists own got n bw page bits = record { own = own; got = got; lent = lent n bw page bits }
 
--- what came of a call: the answer and the heads given back, and what the slices hold
-abbrev pub came : ℕ → ℕ → Heads → List ℕ → List ℕ → Outcome Lists
-came n bw r page bits = outcome r.number r.value (lists r.own r.got n bw page bits)
-
--- an answer and two heads
-abbrev pub heads : ℕ → ℕ → ℕ → ℕ → Heads
-heads number v own got = record { number = number; value = v; own = own; got = got }
+-- what came of a call: the answer, the heads, and what the slices hold
+abbrev pub came : ℕ → ℕ → Result ℕ Refusal → Heads → List ℕ → List ℕ → Outcome Lists
+came n bw result heads page bits = outcome (told result).number (told result).value (lists heads.own heads.got n bw page bits)

@@ -1,26 +1,17 @@
-// Upstream's LL over heads and the two lent slices. Each function takes own's and got's heads, the page's numbers and the
-// slices, and gives back the answer and the heads. No public function has a requires: each refuses by document 01's
-// numbers, the smallest first, and a refusal changes nothing.
+// Upstream's LL over two heads and the two lent slices. Each method takes the page's numbers and the slices, and changes
+// the heads in place. No public function has a requires: each refuses by document 01's numbers, the smallest first, and a
+// refusal changes nothing.
 #![tactic(auto)]
 
 ghost use Rattle.std.specs.Prelude.{◌≡◌};
-ghost use Rattle.lists.specs.Lists.{lists, came, heads};
+ghost use Rattle.lists.specs.Lists.{lists, came};
 ghost use Rattle.lists.specs.Own.{insert_of, pop_of, append_of, extend_of, release_of, empty_of};
 
-use answers::{BAD_PAGE, DAMAGED, DONE, LISTED, NO_SUCH, NONE_LEFT};
-use page::{address, block, fits, is_block, is_run, link, set_link, sound, walk};
+use answers::Refusal;
+use page::{Layout, link, set_link};
 
 mod clear;
 mod lay;
-
-// The answer, and the heads of own and got after it.
-#[derive(Clone, Copy)]
-pub struct Heads {
-    pub number: u64,
-    pub value: u64,
-    pub own: u64,
-    pub got: u64,
-}
 
 // The head of an empty list.
 pub fn new() -> u64
@@ -36,181 +27,144 @@ pub fn empty() -> u64
     new()
 }
 
-// A refusal: the heads stay.
-pub fn refuse(number: u64, own: u64, got: u64) -> Heads
-    ensures { result ≡ heads number 0 own got }
-{
-    Heads {
-        number,
-        value: 0,
-        own,
-        got,
-    }
+// The heads of a worker's two lists.
+#[derive(Clone, Copy, Debug, PartialEq, Eq)]
+pub struct Heads {
+    pub own: u64,
+    pub got: u64,
 }
 
-// Puts block a at the front of own: its link becomes the old head, and its bit is set.
-pub fn insert_block(
-    own: u64,
-    got: u64,
-    n: u64,
-    bw: u64,
-    page: &mut [u64],
-    bits: &mut [u64],
-    a: u64,
-) -> Heads
-    ensures { came n bw result page.new bits.new ≡ insert_of (lists own got n bw page.old bits.old) a }
-{
-    if !fits(n, bw, page.len(), bits.len()) {
-        return refuse(BAD_PAGE, own, got);
+impl Heads {
+    // Puts block a at the front of own: its link becomes the old head, and its bit is set.
+    pub fn insert_block(
+        &mut self,
+        layout: Layout,
+        page: &mut [u64],
+        bits: &mut [u64],
+        a: u64,
+    ) -> Result<u64, Refusal>
+        ensures { came layout.n layout.bw result self.new page.new bits.new ≡ insert_of (lists self.old.own self.old.got layout.n layout.bw page.old bits.old) a }
+    {
+        if !layout.fits(page.len(), bits.len()) {
+            return Err(Refusal::BadPage);
+        }
+        if !layout.is_block(a) {
+            return Err(Refusal::NoSuch);
+        }
+        if bitmap::is_set(&*bits, a) {
+            return Err(Refusal::Listed);
+        }
+        if !layout.sound(&*bits, self.own) {
+            return Err(Refusal::Damaged);
+        }
+        let head = layout.address(a);
+        set_link(&mut *page, head, self.own);
+        bitmap::set(&mut *bits, a);
+        self.own = head;
+        Ok(0)
     }
-    if !is_block(n, a) {
-        return refuse(NO_SUCH, own, got);
-    }
-    if bitmap::is_set(&*bits, a) {
-        return refuse(LISTED, own, got);
-    }
-    if !sound(n, bw, &*bits, own) {
-        return refuse(DAMAGED, own, got);
-    }
-    let head = address(bw, a);
-    set_link(&mut *page, head, own);
-    bitmap::set(&mut *bits, a);
-    Heads {
-        number: DONE,
-        value: 0,
-        own: head,
-        got,
-    }
-}
 
-// Takes own's front block: its bit is cleared, and its link becomes the head. No page word changes.
-pub fn pop_block(own: u64, got: u64, n: u64, bw: u64, page: &[u64], bits: &mut [u64]) -> Heads
-    ensures { came n bw result page.now bits.new ≡ pop_of (lists own got n bw page.now bits.old) }
-{
-    if !fits(n, bw, page.len(), bits.len()) {
-        return refuse(BAD_PAGE, own, got);
+    // Takes own's front block: its bit is cleared, and its link becomes the head. No page word changes.
+    pub fn pop_block(
+        &mut self,
+        layout: Layout,
+        page: &[u64],
+        bits: &mut [u64],
+    ) -> Result<u64, Refusal>
+        ensures { came layout.n layout.bw result self.new page.now bits.new ≡ pop_of (lists self.old.own self.old.got layout.n layout.bw page.now bits.old) }
+    {
+        if !layout.fits(page.len(), bits.len()) {
+            return Err(Refusal::BadPage);
+        }
+        if self.own == 0 {
+            return Err(Refusal::NoneLeft);
+        }
+        if !layout.sound(&*bits, self.own) {
+            return Err(Refusal::Damaged);
+        }
+        let next = link(page, self.own);
+        if !layout.sound(&*bits, next) {
+            return Err(Refusal::Damaged);
+        }
+        let front = layout.block(self.own);
+        bitmap::clear(&mut *bits, front);
+        self.own = next;
+        Ok(front)
     }
-    if own == 0 {
-        return refuse(NONE_LEFT, own, got);
-    }
-    if !sound(n, bw, &*bits, own) {
-        return refuse(DAMAGED, own, got);
-    }
-    let next = link(page, own);
-    if !sound(n, bw, &*bits, next) {
-        return refuse(DAMAGED, own, got);
-    }
-    let front = block(bw, own);
-    bitmap::clear(&mut *bits, front);
-    Heads {
-        number: DONE,
-        value: front,
-        own: next,
-        got,
-    }
-}
 
-// Puts got before own: the link of got's last block becomes own's head, and got becomes empty.
-pub fn append(own: u64, got: u64, n: u64, bw: u64, page: &mut [u64], bits: &[u64]) -> Heads
-    ensures { came n bw result page.new bits.now ≡ append_of (lists own got n bw page.old bits.now) }
-{
-    if !fits(n, bw, page.len(), bits.len()) {
-        return refuse(BAD_PAGE, own, got);
+    // Puts got before own: the link of got's last block becomes own's head, and got becomes empty.
+    pub fn append(&mut self, layout: Layout, page: &mut [u64], bits: &[u64]) -> Result<u64, Refusal>
+        ensures { came layout.n layout.bw result self.new page.new bits.now ≡ append_of (lists self.old.own self.old.got layout.n layout.bw page.old bits.now) }
+    {
+        if !layout.fits(page.len(), bits.len()) {
+            return Err(Refusal::BadPage);
+        }
+        if self.got == 0 {
+            return Ok(0);
+        }
+        if !layout.sound(bits, self.own) {
+            return Err(Refusal::Damaged);
+        }
+        let taken = layout.walk(self.got, &*page, bits).ok_or(Refusal::Damaged)?;
+        set_link(&mut *page, layout.address(taken.last), self.own);
+        self.own = self.got;
+        self.got = 0;
+        Ok(taken.count)
     }
-    if got == 0 {
-        return Heads {
-            number: DONE,
-            value: 0,
-            own,
-            got,
-        };
-    }
-    if !sound(n, bw, bits, own) {
-        return refuse(DAMAGED, own, got);
-    }
-    let taken = walk(got, n, bw, &*page, bits);
-    if !taken.sound {
-        return refuse(DAMAGED, own, got);
-    }
-    set_link(&mut *page, address(bw, taken.last), own);
-    Heads {
-        number: DONE,
-        value: taken.count,
-        own: got,
-        got: 0,
-    }
-}
 
-// Puts blocks a, a+1, .. a+b−1 before own, in ascending order, and sets their bits.
-pub fn prepend_contiguous_blocks(
-    own: u64,
-    got: u64,
-    n: u64,
-    bw: u64,
-    page: &mut [u64],
-    bits: &mut [u64],
-    a: u64,
-    b: u64,
-) -> Heads
-    ensures { came n bw result page.new bits.new ≡ extend_of (lists own got n bw page.old bits.old) a b }
-{
-    if !fits(n, bw, page.len(), bits.len()) {
-        return refuse(BAD_PAGE, own, got);
+    // Puts blocks a, a+1, .. a+b−1 before own, in ascending order, and sets their bits.
+    pub fn prepend_contiguous_blocks(
+        &mut self,
+        layout: Layout,
+        page: &mut [u64],
+        bits: &mut [u64],
+        a: u64,
+        b: u64,
+    ) -> Result<u64, Refusal>
+        ensures { came layout.n layout.bw result self.new page.new bits.new ≡ extend_of (lists self.old.own self.old.got layout.n layout.bw page.old bits.old) a b }
+    {
+        if !layout.fits(page.len(), bits.len()) {
+            return Err(Refusal::BadPage);
+        }
+        if !layout.is_run(a, b) {
+            return Err(Refusal::NoSuch);
+        }
+        if bitmap::runs::any_set(&*bits, a, b) {
+            return Err(Refusal::Listed);
+        }
+        if !layout.sound(&*bits, self.own) {
+            return Err(Refusal::Damaged);
+        }
+        self.own = lay::lay(&mut *page, layout, a, b, self.own);
+        bitmap::runs::set_run(&mut *bits, a, b);
+        Ok(b)
     }
-    if !is_run(n, a, b) {
-        return refuse(NO_SUCH, own, got);
-    }
-    if bitmap::runs::any_set(&*bits, a, b) {
-        return refuse(LISTED, own, got);
-    }
-    if !sound(n, bw, &*bits, own) {
-        return refuse(DAMAGED, own, got);
-    }
-    let head = lay::lay(&mut *page, bw, a, b, own);
-    bitmap::runs::set_run(&mut *bits, a, b);
-    Heads {
-        number: DONE,
-        value: b,
-        own: head,
-        got,
-    }
-}
 
-// Clears the bits of all own blocks and empties own.
-pub fn make_empty(own: u64, got: u64, n: u64, bw: u64, page: &[u64], bits: &mut [u64]) -> Heads
-    ensures { came n bw result page.now bits.new ≡ release_of (lists own got n bw page.now bits.old) }
-{
-    if !fits(n, bw, page.len(), bits.len()) {
-        return refuse(BAD_PAGE, own, got);
+    // Clears the bits of all own blocks and empties own.
+    pub fn make_empty(
+        &mut self,
+        layout: Layout,
+        page: &[u64],
+        bits: &mut [u64],
+    ) -> Result<u64, Refusal>
+        ensures { came layout.n layout.bw result self.new page.now bits.new ≡ release_of (lists self.old.own self.old.got layout.n layout.bw page.now bits.old) }
+    {
+        if !layout.fits(page.len(), bits.len()) {
+            return Err(Refusal::BadPage);
+        }
+        let met = layout.walk(self.own, page, &*bits).ok_or(Refusal::Damaged)?;
+        clear::clear_met(self.own, met.count, layout, page, &mut *bits);
+        self.own = 0;
+        Ok(met.count)
     }
-    let met = walk(own, n, bw, page, &*bits);
-    if !met.sound {
-        return refuse(DAMAGED, own, got);
-    }
-    clear::clear_met(own, met.count, bw, page, &mut *bits);
-    Heads {
-        number: DONE,
-        value: met.count,
-        own: 0,
-        got,
-    }
-}
 
-// Answers 1 if own is empty, else 0. It looks at the head alone.
-pub fn is_empty(own: u64, got: u64, n: u64, bw: u64, page: &[u64], bits: &[u64]) -> Heads
-    ensures { came n bw result page.now bits.now ≡ empty_of (lists own got n bw page.now bits.now) }
-{
-    if !fits(n, bw, page.len(), bits.len()) {
-        return refuse(BAD_PAGE, own, got);
-    }
-    let mut value = 0;
-    if own == 0 {
-        value = 1;
-    }
-    Heads {
-        number: DONE,
-        value,
-        own,
-        got,
+    // Answers 1 if own is empty, else 0. It looks at the head alone.
+    pub fn is_empty(&self, layout: Layout, page: &[u64], bits: &[u64]) -> Result<u64, Refusal>
+        ensures { came layout.n layout.bw result self.now page.now bits.now ≡ empty_of (lists self.now.own self.now.got layout.n layout.bw page.now bits.now) }
+    {
+        if !layout.fits(page.len(), bits.len()) {
+            return Err(Refusal::BadPage);
+        }
+        Ok(u64::from(self.own == 0))
     }
 }
