@@ -153,9 +153,10 @@ pub fn swap(k: &mut Worker, common: &mut Common, layout: Layout) -> Option<u64>
     requires { (1 ≤ layout.bw) × (layout.bw ≤ max_width) }
     ensures { (page bits : List ℕ) → went layout.n layout.bw (Ok result) k.new common.new page bits ≡ swap_act (turn_of k.old common.old (lent layout.n layout.bw page bits)) }
 {
-    k.got = common.shared;
+    let head = common.shared;
     common.shared = 0;
-    ends(k, layout.block(k.got))
+    k.got = head;
+    ends(k, layout.block(head))
 }
 
 // Takes T: got becomes the address part, and T keeps only its tag.
@@ -164,7 +165,8 @@ pub fn mask(k: &mut Worker, common: &mut Common, layout: Layout) -> Option<u64>
     requires { (1 ≤ layout.bw) × (layout.bw ≤ max_width) }
     ensures { (page bits : List ℕ) → went layout.n layout.bw (Ok result) k.new common.new page bits ≡ mask_act (turn_of k.old common.old (lent layout.n layout.bw page bits)) }
 {
-    k.got = masked_ptr_delay_get_ptr(common.tagged);
+    let address = masked_ptr_delay_get_ptr(common.tagged);
     common.tagged = masked_ptr_delay_get_delay(common.tagged);
-    ends(k, layout.block(k.got))
+    k.got = address;
+    ends(k, layout.block(address))
 }
