@@ -1,24 +1,16 @@
-// A run of events in a lent slice, with the state in a local that is changed in place. No public function has a requires.
+// A run of events in a lent slice, with the state changed in place. No public function has a requires.
 #![tactic(auto)]
 
-ghost use Rattle.std.specs.Prelude.{true, ◌≡◌, ◌+◌, ◌*◌, ◌/◌, ◌<◌, ◌≤◌, length, set};
-ghost use Rattle.machine.specs.Config.{config, rules_b};
+ghost use Rattle.std.specs.Prelude.{◌≡◌, ◌+◌, ◌*◌, ◌/◌, ◌<◌, ◌≤◌, length, set};
+ghost use Rattle.machine.specs.Config.{config};
 ghost use Rattle.machine.specs.Events.{event_words, answer_words, ran, came_run, run_of, events_of};
-ghost use Rattle.events.specs.Parts.{event_in, slot_of};
+ghost use Rattle.events.specs.Parts.{event_in};
 
-use crate::happen::{Event, act, happen, in_common, is_quick};
-use answers::{BAD_PAGE, DONE, NO_SUCH, NONE_LEFT};
-use machine::ask::with_heads;
-use machine::guards::{any_busy, refuse, rules};
-use machine::toggle::TURNS_OFF;
-use machine::{Reply, State};
+use crate::happen::{Event, happen};
+use answers::{Answer, Refusal};
+use machine::State;
 
-mod happen;
-
-// The kinds of an event; on and off are those of `machine::toggle`.
-pub const A_REQUEST: u64 = 1;
-
-pub const A_MOVE: u64 = 2;
+pub mod happen;
 
 // Words of an event: kind, worker, code, a, b.
 pub const EVENT_WORDS: usize = 5;
@@ -26,23 +18,13 @@ pub const EVENT_WORDS: usize = 5;
 // Words of an answer: number, value.
 pub const ANSWER_WORDS: usize = 2;
 
-// The place of a worker's record; of one that there is not, the first.
-fn slot(worker: u64, workers: u64) -> usize
-    ensures { result ≡ slot_of worker workers }
-{
-    if worker < workers {
-        return worker as usize;
-    }
-    0
-}
-
 // Writes answer k.
-fn put(answers: &mut [u64], k: usize, number: u64, value: u64)
+fn put(answers: &mut [u64], k: usize, answer: Answer)
     requires { k * answer_words + 1 < length answers.old }
-    ensures { answers.new ≡ set (set answers.old (k * answer_words) number) (k * answer_words + 1) value }
+    ensures { answers.new ≡ set (set answers.old (k * answer_words) answer.number) (k * answer_words + 1) answer.value }
 {
-    answers[k * ANSWER_WORDS] = number;
-    answers[k * ANSWER_WORDS + 1] = value;
+    answers[k * ANSWER_WORDS] = answer.number;
+    answers[k * ANSWER_WORDS + 1] = answer.value;
 }
 
 // Reads event k.
@@ -60,70 +42,45 @@ fn read(events: &[u64], k: usize) -> Event
     }
 }
 
-// Lets every event happen in turn, on the state in a local, and writes its answer.
+// Lets the first events happen in turn, and writes the answer of each.
 fn run(
-    state: State,
+    state: &mut State,
     page: &mut [u64],
     bits: &mut [u64],
     events: &[u64],
+    count: usize,
     answers: &mut [u64],
-) -> State
-    requires { (rules_b (config state page.old bits.old) ≡ true) × (length events.now / event_words * answer_words ≤ length answers.old) }
-    ensures { ran (config result page.new bits.new) answers.new ≡ run_of events.now (length events.now / event_words) (ran (config state page.old bits.old) answers.old) }
+)
+    requires events { count * event_words ≤ length events.now }
+    requires answers { count * answer_words ≤ length answers.old }
+    ensures { ran (config state.new page.new bits.new) answers.new ≡ run_of events.now count (ran (config state.old page.old bits.old) answers.old) }
 {
-    let count = events.len() / EVENT_WORDS;
-    let mut s = state;
-    let mut k = 0;
-    while k < count {
-        let j = k;
-        k += 1;
-        let e = read(events, j);
-        let w = slot(e.worker, s.w);
-        let q = s.workers[w];
-        if is_quick(e, s.w) {
-            let r = act(q, s.n, s.bw, &mut *page, &mut *bits, e);
-            let after = with_heads(q, r.own, r.got);
-            s.workers[w] = after;
-            put(&mut *answers, j, r.number, r.value);
-            continue;
-        }
-        let any = e.kind == TURNS_OFF && any_busy(s);
-        let c = in_common(s.shared, s.tagged, s.on);
-        let r = happen(q, s.w, any, s.n, s.bw, c, &mut *page, &mut *bits, e);
-        let after = r.worker;
-        s.workers[w] = after;
-        s.shared = r.shared;
-        s.tagged = r.tagged;
-        s.on = r.on;
-        put(&mut *answers, j, r.number, r.value);
+    for k in 0..count {
+        let answer = happen(state, page, bits, read(events, k));
+        put(answers, k, Answer::from(answer));
     }
-    s
 }
 
 // Runs the events: the count of them, with each one's answer in its place. Refused with 2, 4 or 10, nothing changes.
 pub fn events(
-    state: State,
+    state: &mut State,
     page: &mut [u64],
     bits: &mut [u64],
     events: &[u64],
     answers: &mut [u64],
-) -> Reply
-    ensures { came_run result page.new bits.new answers.new ≡ events_of (ran (config state page.old bits.old) answers.old) events.now }
+) -> Result<u64, Refusal>
+    ensures { came_run result state.new page.new bits.new answers.new ≡ events_of (ran (config state.old page.old bits.old) answers.old) events.now }
 {
-    if !rules(state.n, state.bw, state.w, page.len(), bits.len()) {
-        return refuse(BAD_PAGE, state);
+    if !state.keeps_rules(page, bits) {
+        return Err(Refusal::BadPage);
     }
     if events.len() % EVENT_WORDS != 0 {
-        return refuse(NO_SUCH, state);
+        return Err(Refusal::NoSuch);
     }
     let count = events.len() / EVENT_WORDS;
     if answers.len() < count * ANSWER_WORDS {
-        return refuse(NONE_LEFT, state);
+        return Err(Refusal::NoneLeft);
     }
-    let next = run(state, page, bits, events, answers);
-    Reply {
-        number: DONE,
-        value: count as u64,
-        state: next,
-    }
+    run(state, page, bits, events, count, answers);
+    Ok(count as u64)
 }

@@ -3,16 +3,11 @@
 use Rattle.std.specs.Prelude.{ℕ, cond, List, ltb}
 use Rattle.answers.specs.Numbers.{bad_page}
 use Rattle.answers.specs.Rows.{Outcome, outcome}
-use Rattle.answers.specs.declared.Answer as answers
+use Rattle.answers.specs.declared.Answer.{Answer}
 use Rattle.machine.specs.declared.State.{State}
 use Rattle.machine.specs.Config.{Config, config}
 use Rattle.machine.specs.Events.{Run}
-use Rattle.host.specs.declared.Answer.{Answer}
 use Rattle.host.specs.Spelling.{spelled, words_of}
-
--- a reader's answer, handed to the host
-abbrev pub handed_of : answers.Answer → Answer
-handed_of a = record { number = a.number; value = a.value }
 
 -- what the lent words hold
 pub record Held : Type 0 where

@@ -3,53 +3,32 @@
 #![tactic(auto)]
 
 ghost use Rattle.std.specs.Prelude.{◌≡◌};
-ghost use Rattle.answers.specs.Rows.{outcome};
+ghost use Rattle.answers.specs.Refusals.{progress};
 ghost use Rattle.machine.specs.Config.{lent_of, fresh_of};
 ghost use Rattle.machine.specs.Requests.{request_of};
 ghost use Rattle.machine.specs.Moves.{move_of};
 ghost use Rattle.machine.specs.Switch.{switch_on_of, switch_off_of};
-ghost use Rattle.machine.specs.Events.{flag_of, ran, came_run, events_of};
+ghost use Rattle.machine.specs.Events.{flag_of, ran, events_of};
 ghost use Rattle.machine.specs.Readers.{listed_count_of, first_unlisted_of, entry_answer_of, compare_of};
 ghost use Rattle.host.specs.Spelling.{spelled};
-ghost use Rattle.host.specs.Calls.{handed_of, gave, holding, written, in_words, fresh_in_words, gave_run, run_in_words};
+ghost use Rattle.host.specs.Calls.{gave, holding, written, in_words, fresh_in_words, gave_run, run_in_words};
 
-use crate::spelling::{BW, N, STATE_WORDS, W, load, store};
-use answers::BAD_PAGE;
-use events::A_REQUEST;
-use machine::Reply;
+use crate::spelling::{STATE_WORDS, W, layout, load, store};
+use answers::{Answer, Refusal};
+use machine::State;
+use page::Layout;
 
 mod spelling;
 
-// An answer, laid out as C expects.
-#[repr(C)]
-#[derive(Clone, Copy)]
-pub struct Answer {
-    pub number: u64,
-    pub value: u64,
-}
-
-// Writes the state given back unless the number refuses, and hands the answer on.
-fn finish(words: &mut [u64; STATE_WORDS], after: Reply) -> Answer
-    ensures { outcome result.number result.value words.new ≡ outcome after.number after.value (written words.old after.number after.state) }
+// Writes the state unless the call was refused, and tells its answer.
+fn finish(words: &mut [u64; STATE_WORDS], s: State, told: Result<Option<u64>, Refusal>) -> Answer
+    ensures answer { result ≡ progress told }
+    ensures words { words.new ≡ written words.old (progress told).number s }
 {
-    if after.number < BAD_PAGE {
-        let s = after.state;
+    if told.is_ok() {
         store(words, s);
     }
-    Answer {
-        number: after.number,
-        value: after.value,
-    }
-}
-
-// A reader's answer.
-fn handed(answer: answers::Answer) -> Answer
-    ensures { result ≡ handed_of answer }
-{
-    Answer {
-        number: answer.number,
-        value: answer.value,
-    }
+    Answer::from(told)
 }
 
 // A fresh start over a zeroed bitmap. It reads no word of state; refused, it writes 0 to all of them and to nothing else.
@@ -64,29 +43,12 @@ pub extern "C" fn albmerik_fresh(
 ) -> Answer
     ensures { gave result state.new page.now bits.new ≡ fresh_in_words (fresh_of n bw w page.now bits.old) }
 {
-    let reply = machine::fresh::fresh(n, bw, w, page, bits);
-    let s = reply.state;
-    store(state, s);
-    Answer {
-        number: reply.number,
-        value: reply.value,
-    }
+    let made = machine::fresh::fresh(Layout { n, bw }, w, page, bits);
+    store(state, made.unwrap_or(State::at_rest(Layout { n: 0, bw: 0 }, 0)));
+    Answer::from(made.map(|_| 0))
 }
 
-// Runs events on the state that the words spell. Requests and runs meet here, so that the machine's events have one caller.
-fn run(
-    words: &[u64; STATE_WORDS],
-    page: &mut [u64],
-    bits: &mut [u64],
-    events: &[u64],
-    answers: &mut [u64],
-) -> Reply
-    ensures { came_run result page.new bits.new answers.new ≡ events_of (ran (holding words.now page.old bits.old) answers.old) events.now }
-{
-    events::events(load(words), page, bits, events, answers)
-}
-
-// A request, as a run of one event. What the run writes, or leaves as the refusal by 2, is the answer.
+// A request of a worker, by its code.
 #[unsafe(no_mangle)]
 pub extern "C" fn albmerik_request(
     state: &mut [u64; STATE_WORDS],
@@ -99,12 +61,9 @@ pub extern "C" fn albmerik_request(
 ) -> Answer
     ensures { gave result state.new page.new bits.new ≡ in_words state.old (request_of (holding state.old page.old bits.old) worker code a b) }
 {
-    let event = [A_REQUEST, worker, code, a, b];
-    let mut answer = [BAD_PAGE, 0];
-    let mut reply = run(state, page, bits, &event, &mut answer);
-    reply.number = answer[0];
-    reply.value = answer[1];
-    finish(state, reply)
+    let mut s = load(state);
+    let told = machine::request::request(&mut s, worker, code, a, b, page, bits);
+    finish(state, s, told)
 }
 
 // A move of a worker; any flag but 0 is set.
@@ -118,8 +77,9 @@ pub extern "C" fn albmerik_move(
 ) -> Answer
     ensures { gave result state.new page.new bits.now ≡ in_words state.old (move_of (holding state.old page.old bits.now) worker (flag_of flag)) }
 {
-    let reply = machine::moves::make_move(load(state), worker, flag != 0, page, bits);
-    finish(state, reply)
+    let mut s = load(state);
+    let told = machine::moves::make_move(&mut s, worker, flag != 0, page, bits);
+    finish(state, s, told)
 }
 
 // T switched on.
@@ -127,8 +87,9 @@ pub extern "C" fn albmerik_move(
 pub extern "C" fn albmerik_on(state: &mut [u64; STATE_WORDS], page: &[u64], bits: &[u64]) -> Answer
     ensures { gave result state.new page.now bits.now ≡ in_words state.old (switch_on_of (holding state.old page.now bits.now)) }
 {
-    let reply = machine::switch::switch_on(load(state), page, bits);
-    finish(state, reply)
+    let mut s = load(state);
+    let told = machine::switch::switch_on(&mut s, page, bits);
+    finish(state, s, told.map(Some))
 }
 
 // T switched off.
@@ -136,8 +97,9 @@ pub extern "C" fn albmerik_on(state: &mut [u64; STATE_WORDS], page: &[u64], bits
 pub extern "C" fn albmerik_off(state: &mut [u64; STATE_WORDS], page: &[u64], bits: &[u64]) -> Answer
     ensures { gave result state.new page.now bits.now ≡ in_words state.old (switch_off_of (holding state.old page.now bits.now)) }
 {
-    let reply = machine::switch::switch_off(load(state), page, bits);
-    finish(state, reply)
+    let mut s = load(state);
+    let told = machine::switch::switch_off(&mut s, page, bits);
+    finish(state, s, told.map(Some))
 }
 
 // A run of events, each one's answer in its place.
@@ -151,8 +113,9 @@ pub extern "C" fn albmerik_events(
 ) -> Answer
     ensures { gave_run result state.new page.new bits.new answers.new ≡ run_in_words state.old (events_of (ran (holding state.old page.old bits.old) answers.old) events.now) }
 {
-    let reply = run(state, page, bits, events, answers);
-    finish(state, reply)
+    let mut s = load(state);
+    let told = events::events(&mut s, page, bits, events, answers);
+    finish(state, s, told.map(Some))
 }
 
 // How many blocks are listed.
@@ -162,9 +125,9 @@ pub extern "C" fn albmerik_listed_count(
     page: &[u64],
     bits: &[u64],
 ) -> Answer
-    ensures { result ≡ handed_of (listed_count_of (lent_of (holding state.now page.now bits.now)) (spelled state.now).w) }
+    ensures { result ≡ listed_count_of (lent_of (holding state.now page.now bits.now)) (spelled state.now).w }
 {
-    handed(readers::listed_count(state[N], state[BW], state[W], page, bits))
+    Answer::from(readers::listed_count(layout(state), state[W], page, bits))
 }
 
 // The smallest block that is not listed.
@@ -174,9 +137,9 @@ pub extern "C" fn albmerik_first_unlisted(
     page: &[u64],
     bits: &[u64],
 ) -> Answer
-    ensures { result ≡ handed_of (first_unlisted_of (lent_of (holding state.now page.now bits.now)) (spelled state.now).w) }
+    ensures { result ≡ first_unlisted_of (lent_of (holding state.now page.now bits.now)) (spelled state.now).w }
 {
-    handed(readers::first_unlisted(state[N], state[BW], state[W], page, bits))
+    Answer::from(readers::first_unlisted(layout(state), state[W], page, bits))
 }
 
 // Which number applies to block a's entry.
@@ -187,9 +150,9 @@ pub extern "C" fn albmerik_entry_answer(
     bits: &[u64],
     a: u64,
 ) -> Answer
-    ensures { result ≡ handed_of (entry_answer_of (lent_of (holding state.now page.now bits.now)) (spelled state.now).w a) }
+    ensures { result ≡ entry_answer_of (lent_of (holding state.now page.now bits.now)) (spelled state.now).w a }
 {
-    handed(readers::entry_answer(state[N], state[BW], state[W], page, bits, a))
+    Answer::from(readers::entry_answer(layout(state), state[W], page, bits, a))
 }
 
 // How many leading words of two entries are equal.
@@ -201,7 +164,7 @@ pub extern "C" fn albmerik_compare_entries(
     a: u64,
     b: u64,
 ) -> Answer
-    ensures { result ≡ handed_of (compare_of (lent_of (holding state.now page.now bits.now)) (spelled state.now).w a b) }
+    ensures { result ≡ compare_of (lent_of (holding state.now page.now bits.now)) (spelled state.now).w a b }
 {
-    handed(readers::compare_entries(state[N], state[BW], state[W], page, bits, a, b))
+    Answer::from(readers::compare_entries(layout(state), state[W], page, bits, a, b))
 }

@@ -2,18 +2,20 @@
 ghost use Rattle.std.specs.Prelude.{◌≡◌, ◌<◌, length};
 ghost use Rattle.std.proofs.lemmas.List.Edits.{sets};
 ghost use Rattle.page.specs.Limits.{max_workers};
+ghost use Rattle.machine.specs.Config.{layout_of};
 ghost use Rattle.host.specs.Spelling.{state_words, record_at, worker_at, spelled, worker_words, words_of};
 
-use machine::{RECORDS, State};
+use machine::State;
 use operations::Worker;
+use page::Layout;
 
 // How many words spell a state.
 pub const STATE_WORDS: usize = 70;
 
 // The places of n, bw, W, S, T and of whether T is on.
-pub const N: usize = 0;
+const N: usize = 0;
 
-pub const BW: usize = 1;
+const BW: usize = 1;
 
 pub const W: usize = 2;
 
@@ -28,6 +30,16 @@ const FIRST_RECORD: usize = 6;
 
 // How many words spell a worker record.
 const RECORD_WORDS: usize = 8;
+
+// The page's numbers.
+pub fn layout(words: &[u64; STATE_WORDS]) -> Layout
+    ensures { result ≡ layout_of (spelled words.now) }
+{
+    Layout {
+        n: words[N],
+        bw: words[BW],
+    }
+}
 
 // Reads worker i's record.
 fn worker_at(words: &[u64; STATE_WORDS], i: usize) -> Worker
@@ -51,16 +63,7 @@ fn worker_at(words: &[u64; STATE_WORDS], i: usize) -> Worker
 pub fn load(words: &[u64; STATE_WORDS]) -> State
     ensures { result ≡ spelled words.now }
 {
-    let workers = [
-        worker_at(words, 0),
-        worker_at(words, 1),
-        worker_at(words, 2),
-        worker_at(words, 3),
-        worker_at(words, 4),
-        worker_at(words, 5),
-        worker_at(words, 6),
-        worker_at(words, 7),
-    ];
+    let workers = [0, 1, 2, 3, 4, 5, 6, 7].map(|i| worker_at(words, i));
     State {
         n: words[N],
         bw: words[BW],
@@ -78,14 +81,17 @@ fn put_worker(words: &mut [u64], i: usize, k: Worker)
     ensures { words.new ≡ sets words.old (record_at i) (worker_words k) }
 {
     let at = FIRST_RECORD + i * RECORD_WORDS;
-    words[at] = k.own;
-    words[at + 1] = k.got;
-    words[at + 2] = k.operation;
-    words[at + 3] = k.stage;
-    words[at + 4] = k.tag;
-    words[at + 5] = k.hand;
-    words[at + 6] = k.seen;
-    words[at + 7] = k.sightings;
+    let record = [
+        k.own,
+        k.got,
+        k.operation,
+        k.stage,
+        k.tag,
+        k.hand,
+        k.seen,
+        k.sightings,
+    ];
+    words[at..at + RECORD_WORDS].copy_from_slice(&record);
 }
 
 // Writes the words that spell a state; on becomes 0 or 1.
@@ -99,10 +105,7 @@ pub fn store(words: &mut [u64], s: State)
     words[S] = s.shared;
     words[T] = s.tagged;
     words[ON] = s.on as u64;
-    let mut i: usize = 0;
-    while i < RECORDS {
-        let k = s.workers[i];
-        put_worker(&mut *words, i, k);
-        i += 1;
+    for (i, k) in s.workers.iter().enumerate() {
+        put_worker(words, i, *k);
     }
 }

@@ -10,9 +10,9 @@ ghost use Rattle.machine.specs.Switch.{switch_on_of, switch_off_of};
 ghost use Rattle.machine.specs.Events.{flag_of, ran, events_of};
 ghost use Rattle.machine.specs.Readers.{listed_count_of, first_unlisted_of, entry_answer_of, compare_of};
 ghost use Rattle.host.specs.Spelling.{spelled};
-ghost use Rattle.host.specs.Calls.{handed_of, gave, holding, in_words, fresh_in_words, gave_run, run_in_words};
+ghost use Rattle.host.specs.Calls.{gave, holding, in_words, fresh_in_words, gave_run, run_in_words};
 
-use host::Answer;
+use answers::Answer;
 
 // How many words spell a state.
 const STATE_WORDS: usize = 70;
@@ -99,7 +99,7 @@ pub extern "C" fn albmerik_listed_count(
     page: &[u64],
     bits: &[u64],
 ) -> Answer
-    ensures { result ≡ handed_of (listed_count_of (lent_of (holding state.now page.now bits.now)) (spelled state.now).w) }
+    ensures { result ≡ listed_count_of (lent_of (holding state.now page.now bits.now)) (spelled state.now).w }
 {
     host::albmerik_listed_count(state, page, bits)
 }
@@ -111,7 +111,7 @@ pub extern "C" fn albmerik_first_unlisted(
     page: &[u64],
     bits: &[u64],
 ) -> Answer
-    ensures { result ≡ handed_of (first_unlisted_of (lent_of (holding state.now page.now bits.now)) (spelled state.now).w) }
+    ensures { result ≡ first_unlisted_of (lent_of (holding state.now page.now bits.now)) (spelled state.now).w }
 {
     host::albmerik_first_unlisted(state, page, bits)
 }
@@ -124,7 +124,7 @@ pub extern "C" fn albmerik_entry_answer(
     bits: &[u64],
     a: u64,
 ) -> Answer
-    ensures { result ≡ handed_of (entry_answer_of (lent_of (holding state.now page.now bits.now)) (spelled state.now).w a) }
+    ensures { result ≡ entry_answer_of (lent_of (holding state.now page.now bits.now)) (spelled state.now).w a }
 {
     host::albmerik_entry_answer(state, page, bits, a)
 }
@@ -138,7 +138,7 @@ pub extern "C" fn albmerik_compare_entries(
     a: u64,
     b: u64,
 ) -> Answer
-    ensures { result ≡ handed_of (compare_of (lent_of (holding state.now page.now bits.now)) (spelled state.now).w a b) }
+    ensures { result ≡ compare_of (lent_of (holding state.now page.now bits.now)) (spelled state.now).w a b }
 {
     host::albmerik_compare_entries(state, page, bits, a, b)
 }

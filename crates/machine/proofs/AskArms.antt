@@ -15,7 +15,6 @@ use Rattle.lists.specs.Lists.{Lists, came}
 use Rattle.lists.specs.Own.{empty_of}
 use Rattle.operations.specs.Operations.{push_shared, await_tag, staged_b, busy_b}
 use Rattle.staged.specs.Start.{Starter, start_fits_b, start_of}
-use Rattle.machine.specs.declared.ask.Asked.{Asked}
 use Rattle.machine.specs.Table.{insert, pop, append, extend, release, ask_empty, arguments_fit_b}
 use Rattle.machine.specs.Parts.{Asker, answered, lists_in, of_lists, at_once_of, starter_in, of_starter, ask_lists_of, ask_of}
 
@@ -87,13 +86,6 @@ ask-none on x code a b out =
   where
     other : (m : ℕ) → insert ≤ m → m ≤ ask_empty → code ≡ m → ⊥
     other m p q e = ⊎_elim (λ l. omega arith) (λ l. omega arith) out
-
--- what came, by the record given back
-pub answered-by : {n bw : ℕ} {r s : Asked} {page bits : List ℕ} → r ≡ s → answered n bw r page bits ≡ answered n bw s page bits
-answered-by e = simp e
-
-pub heads-by : {n bw : ℕ} {r s : Heads} {page bits : List ℕ} → r ≡ s → came n bw r page bits ≡ came n bw s page bits
-heads-by e = simp e
 
 -- by the arguments and the operation under way
 pub ask-lists-is : (under : Bool) (l : Lists) (code a b : ℕ) {f w : Bool} {d : Outcome Lists} → arguments_fit_b l.lent.n code a b ≡ f → under ≡ w → d ≡ at_once_of l code a b

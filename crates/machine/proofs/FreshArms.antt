@@ -15,7 +15,3 @@ pub fresh-is : (n bw w : ℕ) (page bits : List ℕ) {b2 : Bool} → (fits_b n b
     → cond b2 (outcome done 0 (config (fresh_state n bw w) page (zeroed bits))) (outcome bad_page 0 (config (fresh_state 0 0 0) page bits)) ≡ fresh_of n bw w page bits
 unfolding fresh_of rules_b
 fresh-is n bw w page bits p = simp (← p)
-
--- after the last word the whole bitmap is zeroed
-pub zeroed-all : (bits : List ℕ) (k : ℕ) → k ≡ length bits → replicate k 0 ++ drop k bits ≡ zeroed bits
-zeroed-all bits k e = simp (e, drop-length, append-nil)

@@ -11,24 +11,12 @@ use Rattle.answers.specs.Rows.{outcome}
 use Rattle.operations.specs.declared.Worker.{Worker}
 use Rattle.operations.specs.Operations.{busy_b}
 use Rattle.machine.specs.declared.State.{State}
-use Rattle.machine.specs.declared.Reply.{Reply}
 use Rattle.machine.specs.Config.{config, came, blank}
 use Rattle.machine.specs.Table.{any_busy}
 
 -- two tests by the outcome of the first
 pub and-by : {a v : Bool} (b : Bool) → a ≡ v → v && b ≡ a && b
 and-by b e = simp e
-
--- ---- what a call gives back
-
--- by the reply that it makes
-pub came-by : {r s : Reply} {page bits : List ℕ} → r ≡ s → came r page bits ≡ came s page bits
-came-by e = simp e
-
--- by the value, the state and the bitmap that its steps come to
-pub gives : {number v v' : ℕ} {s s' : State} {page bits bits' : List ℕ} → v ≡ v' → s ≡ s' → bits ≡ bits'
-    → outcome number v (config s page bits) ≡ outcome number v' (config s' page bits')
-gives p q r = simp (p, q, r)
 
 -- ---- the records from i on
 

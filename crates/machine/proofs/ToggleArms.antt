@@ -9,12 +9,11 @@ use Rattle.answers.specs.Numbers.{done, bad_page, no_such, busy, switched, not_e
 use Rattle.answers.specs.Rows.{first, Outcome, outcome, refused, unless}
 use Rattle.words.specs.Tagged.{tag_of, address_of}
 use Rattle.operations.specs.declared.Worker.{Worker}
-use Rattle.machine.specs.declared.toggle.Toggled.{Toggled}
 use Rattle.machine.specs.Config.{Config, config, state_of, blank, turn_of, put_turn, over, rules_b}
 use Rattle.machine.specs.Table.{any_busy, on_refusal, off_refusal}
 use Rattle.machine.specs.Switch.{with_switch, switch_on_of, switch_off_of}
 use Rattle.machine.specs.Events.{turns_on, turns_off}
-use Rattle.machine.specs.Parts.{toggled, toggle_on_of, toggle_off_of, toggle_of, of_toggled}
+use Rattle.machine.specs.Parts.{Toggled, toggled, toggle_on_of, toggle_off_of}
 
 -- ---- what the returns cite
 
@@ -28,12 +27,6 @@ pub off-is : (any : Bool) (tagged : ℕ) (on : Bool) {y o z : Bool} {address tag
 unfolding toggle_off_of
 off-is any tagged on p q e r t = simp (← p, ← q, ← r, e, t)
 
-pub toggle-is : (kind : ℕ) (any : Bool) (tagged : ℕ) (on : Bool) {p q : Bool} {r s : Toggled} → eqb kind turns_on ≡ p → eqb kind turns_off ≡ q
-    → r ≡ toggle_on_of tagged on → s ≡ toggle_off_of any tagged on
-    → cond p r (cond q s (toggled no_such 0 tagged on)) ≡ toggle_of kind any tagged on
-unfolding toggle_of
-toggle-is kind any tagged on p q r s = simp (← p, ← q, r, s)
-
 -- ---- a part of the whole
 
 module _ (c : Config) where
@@ -42,14 +35,6 @@ module _ (c : Config) where
   with_toggled r =
       outcome r.number r.value
       (config (state_of c.state.n c.state.bw c.state.w c.state.shared r.tagged r.on c.state.workers) c.page c.bits)
-
-  -- whichever worker's turn it is put back with
-  pub put-toggled : (w : ℕ) (r : Toggled) → over (put_turn c w) (of_toggled (turn_of c w) r) ≡ with_toggled r
-  put-toggled w r =
-      ap
-      (λ (l : List Worker). outcome r.number r.value
-      (config (state_of c.state.n c.state.bw c.state.w c.state.shared r.tagged r.on l) c.page c.bits))
-      (set-get_or c.state.workers w blank)
 
   -- where the page rules are broken
   pub on-refused : rules_b c ≡ false → refused bad_page c ≡ switch_on_of c

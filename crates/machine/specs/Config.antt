@@ -1,17 +1,21 @@
 -- A configuration: the state and what the lent slices hold; a worker's part of it, and putting a part back
 -- (document 01, The page).
-use Rattle.std.specs.Prelude.{ℕ, Bool, false, ◌&&◌, cond, List, length, get_or, set, replicate}
+use Rattle.std.specs.Prelude.{ℕ, Bool, false, ◌&&◌, cond, List, length, get_or, set, replicate, Option, Result, Ok, Err}
 use Rattle.answers.specs.Numbers.{done, bad_page}
 use Rattle.answers.specs.Rows.{Outcome, outcome}
+use Rattle.answers.specs.Refusals.{number_of, progress, told}
+use Rattle.answers.specs.declared.Answer.{Answer}
+use Rattle.answers.specs.declared.Refusal.{Refusal}
 use Rattle.page.specs.Limits.{max_workers}
+use Rattle.page.specs.declared.Layout.{Layout}
 use Rattle.page.specs.Page.{Lent, lent, keeps_rules_b, workers_b}
 use Rattle.lists.specs.Lists.{Lists}
 use Rattle.operations.specs.declared.Worker.{Worker}
 use Rattle.operations.specs.Operations.{record8}
 use Rattle.staged.specs.Start.{Starter, starter}
 use Rattle.staged.specs.Damage.{Turn, turn}
+use Rattle.staged.specs.declared.Common.{Common}
 use Rattle.machine.specs.declared.State.{State}
-use Rattle.machine.specs.declared.Reply.{Reply}
 
 pub record Config : Type 0 where
   pub state : State
@@ -21,13 +25,24 @@ pub record Config : Type 0 where
 abbrev pub config : State → List ℕ → List ℕ → Config
 config s page bits = record { state = s; page = page; bits = bits }
 
--- the record of the code: an answer and a state
-abbrev pub reply : ℕ → ℕ → State → Reply
-reply number v s = record { number = number; value = v; state = s }
+-- an answer, and what state and slices hold then
+abbrev pub answers_with : Answer → State → List ℕ → List ℕ → Outcome Config
+answers_with a s page bits = outcome a.number a.value (config s page bits)
 
--- what came of a call: the answer and the state given back, and what the slices hold
-abbrev pub came : Reply → List ℕ → List ℕ → Outcome Config
-came r page bits = outcome r.number r.value (config r.state page bits)
+-- what came of a request or a move
+abbrev pub came : Result (Option ℕ) Refusal → State → List ℕ → List ℕ → Outcome Config
+came r s page bits = answers_with (progress r) s page bits
+
+-- what came of a call that is never under way
+abbrev pub came_told : Result ℕ Refusal → State → List ℕ → List ℕ → Outcome Config
+came_told r s page bits = answers_with (told r) s page bits
+
+-- the page's numbers, and what the workers share
+abbrev pub layout_of : State → Layout
+layout_of s = record { n = s.n; bw = s.bw }
+
+abbrev pub common_of : State → Common
+common_of s = record { shared = s.shared; tagged = s.tagged; on = s.on }
 
 abbrev pub state_of : ℕ → ℕ → ℕ → ℕ → ℕ → Bool → List Worker → State
 state_of n bw w shared tagged on workers =
@@ -91,6 +106,11 @@ fresh_state n bw w = state_of n bw w 0 0 false (replicate max_workers blank)
 -- the bitmap with every word 0
 abbrev pub zeroed : List ℕ → List ℕ
 zeroed bits = replicate (length bits) 0
+
+-- what came of a fresh start; where it is refused, a host is given the state whose numbers are all 0
+abbrev pub came_fresh : Result State Refusal → List ℕ → List ℕ → Outcome Config
+came_fresh (Ok s) page bits = outcome done 0 (config s page bits)
+came_fresh (Err e) page bits = outcome (number_of e) 0 (config (fresh_state 0 0 0) page bits)
 
 -- Fresh start: bitmap zeroed, page untouched. Refused with 2, it writes nothing and answers a state whose numbers are all 0.
 unfoldable pub fresh_of : ℕ → ℕ → ℕ → List ℕ → List ℕ → Outcome Config

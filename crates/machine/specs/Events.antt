@@ -1,8 +1,10 @@
 -- A run of events in a lent slice, each of five words: kind, worker, code, a, b. Each event's answer is two words.
-use Rattle.std.specs.Prelude.{ℕ, zero, suc, ◌+◌, ◌*◌, ◌/◌, ◌%◌, Bool, not, cond, List, [], ◌∷◌, ltb, eqb, length, get_or, set}
+use Rattle.std.specs.Prelude.{ℕ, zero, suc, ◌+◌, ◌*◌, ◌/◌, ◌%◌, Bool, not, cond, List, [], ◌∷◌, ltb, eqb, length, get_or, set, Result}
 use Rattle.answers.specs.Numbers.{done, bad_page, no_such, none_left}
 use Rattle.answers.specs.Rows.{row, first, Outcome, outcome, refused, unless}
-use Rattle.machine.specs.declared.Reply.{Reply}
+use Rattle.answers.specs.Refusals as refusals
+use Rattle.answers.specs.declared.Refusal.{Refusal}
+use Rattle.machine.specs.declared.State.{State}
 use Rattle.machine.specs.Config.{Config, config, rules_b}
 use Rattle.machine.specs.Requests.{request_of}
 use Rattle.machine.specs.Moves.{move_of}
@@ -47,9 +49,9 @@ pub record Run : Type 0 where
 abbrev pub ran : Config → List ℕ → Run
 ran c answers = record { config = c; answers = answers }
 
--- what came of a run: the answer and the state given back, and what the slices hold
-abbrev pub came_run : Reply → List ℕ → List ℕ → List ℕ → Outcome Run
-came_run r page bits answers = outcome r.number r.value (ran (config r.state page bits) answers)
+-- what came of a run: the answer, and what the state and the slices hold
+abbrev pub came_run : Result ℕ Refusal → State → List ℕ → List ℕ → List ℕ → Outcome Run
+came_run r s page bits answers = outcome (refusals.told r).number (refusals.told r).value (ran (config s page bits) answers)
 
 -- an event's answer written in its place
 abbrev pub told : ℕ → Run → Outcome Config → Run

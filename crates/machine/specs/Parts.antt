@@ -1,10 +1,13 @@
 -- One worker's part of a request, and T's switch: its record, the head words, the switch and what is lent. The page rules are
 -- tested before.
-use Rattle.std.specs.Prelude.{ℕ, ◌≡◌, Bool, true, false, not, cond, List, eqb, ltb}
+use Rattle.std.specs.Prelude.{ℕ, ◌≡◌, Bool, true, false, not, cond, List, eqb, ltb, Option, Result}
 use Rattle.answers.specs.Numbers.{done, no_such, busy, switched, not_empty}
 use Rattle.answers.specs.Rows.{Outcome, outcome, refused}
+use Rattle.answers.specs.Refusals.{progress, told}
+use Rattle.answers.specs.declared.Refusal.{Refusal}
 use Rattle.words.specs.Tagged.{tag_of, address_of}
 use Rattle.page.specs.Page.{Lent, lent}
+use Rattle.lists.specs.declared.Heads.{Heads}
 use Rattle.lists.specs.Lists.{Lists}
 use Rattle.lists.specs.Own.{insert_of, pop_of, append_of, extend_of, release_of, empty_of}
 use Rattle.operations.specs.declared.Worker.{Worker}
@@ -12,8 +15,6 @@ use Rattle.operations.specs.Operations.{staged_b, busy_b}
 use Rattle.staged.specs.Start.{Starter, starter, start_of}
 use Rattle.staged.specs.Damage.{Turn, turn}
 use Rattle.staged.specs.Moves as staged
-use Rattle.machine.specs.declared.ask.Asked.{Asked}
-use Rattle.machine.specs.declared.toggle.Toggled.{Toggled}
 use Rattle.machine.specs.Config.{Config, config, worker_of, lent_of, turn_of, put_worker, put_turn, with_heads, over, rules_b}
 use Rattle.machine.specs.Table.{insert, pop, append, extend, release, arguments_fit_b}
 use Rattle.machine.specs.Requests.{request_of}
@@ -28,13 +29,9 @@ pub record Asker : Type 0 where
 abbrev pub asker : Worker → Lent → Asker
 asker k l = record { worker = k; lent = l }
 
--- the record of the code: an answer and a worker's record
-abbrev pub asked : ℕ → ℕ → Worker → Asked
-asked number v k = record { number = number; value = v; worker = k }
-
--- what a request gives back, with what the slices hold then
-abbrev pub answered : ℕ → ℕ → Asked → List ℕ → List ℕ → Outcome Asker
-answered n bw r page bits = outcome r.number r.value (asker r.worker (lent n bw page bits))
+-- a request's answer, and what the record and the slices hold then
+abbrev pub answered : ℕ → ℕ → Result (Option ℕ) Refusal → Worker → List ℕ → List ℕ → Outcome Asker
+answered n bw r k page bits = outcome (progress r).number (progress r).value (asker k (lent n bw page bits))
 
 -- a worker's part, and putting it back
 abbrev pub asker_of : Config → ℕ → Asker
@@ -44,6 +41,9 @@ abbrev pub put_asker : Config → ℕ → Asker → Config
 put_asker c w x = config (put_worker c.state w x.worker) x.lent.page x.lent.bits
 
 -- ---- 1 to 5 and 13
+
+abbrev pub heads_in : Worker → Heads
+heads_in k = record { own = k.own; got = k.got }
 
 abbrev pub lists_in : Asker → Lists
 lists_in x = record { own = x.worker.own; got = x.worker.got; lent = x.lent }
@@ -95,9 +95,19 @@ MovesByTurn =
 
 -- ---- T's switch: its word and whether it is on
 
--- the record of the code: an answer, T's word and its switch
+-- an answer, T's word and its switch
+pub record Toggled : Type 0 where
+  pub number : ℕ
+  pub value : ℕ
+  pub tagged : ℕ
+  pub on : Bool
+
 abbrev pub toggled : ℕ → ℕ → ℕ → Bool → Toggled
 toggled number v tagged on = record { number = number; value = v; tagged = tagged; on = on }
+
+-- an answer, and what T's word and its switch are then
+abbrev pub toggles : Result ℕ Refusal → ℕ → Bool → Toggled
+toggles r tagged on = toggled (told r).number (told r).value tagged on
 
 unfoldable pub toggle_on_of : ℕ → Bool → Toggled
 toggle_on_of tagged on = cond on (toggled switched 0 tagged on) (toggled done 0 0 true)
@@ -108,12 +118,3 @@ toggle_off_of any tagged on =
     cond any (toggled busy 0 tagged on)
     (cond (not on) (toggled switched 0 tagged on)
     (cond (not (eqb (address_of tagged) 0)) (toggled not_empty 0 tagged on) (toggled done (tag_of tagged) 0 false)))
-
--- by the kind; an unknown one is answered with 4
-unfoldable pub toggle_of : ℕ → Bool → ℕ → Bool → Toggled
-toggle_of kind any tagged on =
-    cond (eqb kind turns_on) (toggle_on_of tagged on) (cond (eqb kind turns_off) (toggle_off_of any tagged on) (toggled no_such 0 tagged on))
-
--- T's word and its switch alone change
-abbrev pub of_toggled : Turn → Toggled → Outcome Turn
-of_toggled t r = outcome r.number r.value (turn t.worker t.shared r.tagged r.on t.lent)

@@ -5,14 +5,12 @@ ghost use Rattle.lists.specs.Lists.{lists, came};
 ghost use Rattle.operations.specs.Operations.{busy_b};
 ghost use Rattle.machine.specs.Table.{arguments_fit_b};
 ghost use Rattle.machine.specs.Config.{with_heads};
-ghost use Rattle.machine.specs.Parts.{asked, asker, answered, at_once_of, ask_lists_of, ask_of};
+ghost use Rattle.machine.specs.Parts.{asker, answered, at_once_of, ask_lists_of, ask_of, heads_in};
 
-use answers::{BUSY, NO_SUCH};
-use lists::{
-    Heads, append, insert_block, is_empty, make_empty, pop_block, prepend_contiguous_blocks, refuse,
-};
-use operations::{AWAIT_TAG, PUSH_SHARED, Worker, is_busy, is_staged};
-use page::{is_block, is_run};
+use answers::Refusal;
+use lists::Heads;
+use operations::{AWAIT_TAG, PUSH_SHARED, Worker, is_staged};
+use page::Layout;
 use staged::start::{start, start_fits};
 
 pub const INSERT: u64 = 1;
@@ -27,123 +25,93 @@ pub const RELEASE: u64 = 5;
 
 pub const ASK_EMPTY: u64 = 13;
 
-// What a request gives back: its answer and the worker's record.
-#[derive(Clone, Copy)]
-pub struct Asked {
-    pub number: u64,
-    pub value: u64,
-    pub worker: Worker,
-}
-
 // Whether there is such a request, and it has the block, the run or the tag that it asks for: row 4 of the
 // table whole, also of 6 to 12, whose start tests it itself.
-fn arguments_fit(n: u64, code: u64, a: u64, b: u64) -> bool
-    ensures { result ≡ arguments_fit_b n code a b }
+#[tactic(auto, unfolding(crate::specs::Table::arguments_fit_b))]
+fn arguments_fit(layout: Layout, code: u64, a: u64, b: u64) -> bool
+    ensures { result ≡ arguments_fit_b layout.n code a b }
 {
     if is_staged(code) {
-        return start_fits(n, code, a);
+        return start_fits(layout, code, a);
     }
     match code {
-        INSERT => is_block(n, a),
-        POP => true,
-        APPEND => true,
-        EXTEND => is_run(n, a, b),
-        RELEASE => true,
-        _ => code == ASK_EMPTY,
+        INSERT => layout.is_block(a),
+        EXTEND => layout.is_run(a, b),
+        POP | APPEND | RELEASE | ASK_EMPTY => true,
+        _ => false,
     }
 }
 
 // The requests that act at once on own and got.
+#[tactic(auto, unfolding(crate::specs::Parts::at_once_of))]
 fn at_once(
-    own: u64,
-    got: u64,
-    n: u64,
-    bw: u64,
+    heads: &mut Heads,
+    layout: Layout,
     page: &mut [u64],
     bits: &mut [u64],
     code: u64,
     a: u64,
     b: u64,
-) -> Heads
-    ensures { came n bw result page.new bits.new ≡ at_once_of (lists own got n bw page.old bits.old) code a b }
+) -> Result<u64, Refusal>
+    ensures { came layout.n layout.bw result heads.new page.new bits.new ≡ at_once_of (lists heads.old.own heads.old.got layout.n layout.bw page.old bits.old) code a b }
 {
     match code {
-        INSERT => insert_block(own, got, n, bw, page, bits, a),
-        POP => pop_block(own, got, n, bw, &*page, bits),
-        APPEND => append(own, got, n, bw, page, &*bits),
-        EXTEND => prepend_contiguous_blocks(own, got, n, bw, page, bits, a, b),
-        RELEASE => make_empty(own, got, n, bw, &*page, bits),
-        _ => is_empty(own, got, n, bw, &*page, &*bits),
+        INSERT => heads.insert_block(layout, page, bits, a),
+        POP => heads.pop_block(layout, page, bits),
+        APPEND => heads.append(layout, page, bits),
+        EXTEND => heads.prepend_contiguous_blocks(layout, page, bits, a, b),
+        RELEASE => heads.make_empty(layout, page, bits),
+        _ => heads.is_empty(layout, page, bits),
     }
 }
 
-// Own and got alone change.
-pub fn with_heads(k: Worker, own: u64, got: u64) -> Worker
-    ensures { result ≡ with_heads k own got }
-{
-    let mut next = k;
-    next.own = own;
-    next.got = got;
-    next
-}
-
-// A request that is none of 6 to 12: refused with 4 or 5, or it acts at once. `k` has the worker's own and got.
-pub fn ask_lists(
-    k: Worker,
-    n: u64,
-    bw: u64,
+// A request that is none of 6 to 12: refused with 4 or 5, or it acts at once on own and got.
+#[tactic(auto, unfolding(crate::specs::Parts::ask_lists_of))]
+fn ask_lists(
+    k: &mut Worker,
+    layout: Layout,
     page: &mut [u64],
     bits: &mut [u64],
     code: u64,
     a: u64,
     b: u64,
-) -> Heads
-    ensures { came n bw result page.new bits.new ≡ ask_lists_of (busy_b k) (lists k.own k.got n bw page.old bits.old) code a b }
+) -> Result<u64, Refusal>
+    ensures lists { came layout.n layout.bw result (heads_in k.new) page.new bits.new ≡ ask_lists_of (busy_b k.old) (lists k.old.own k.old.got layout.n layout.bw page.old bits.old) code a b }
+    ensures record { k.new ≡ with_heads k.old k.new.own k.new.got }
 {
-    if !arguments_fit(n, code, a, b) {
-        return refuse(NO_SUCH, k.own, k.got);
+    if !arguments_fit(layout, code, a, b) {
+        return Err(Refusal::NoSuch);
     }
-    if is_busy(k) {
-        return refuse(BUSY, k.own, k.got);
+    if k.is_busy() {
+        return Err(Refusal::Busy);
     }
-    at_once(k.own, k.got, n, bw, page, bits, code, a, b)
-}
-
-// An answer and a record.
-fn give(number: u64, value: u64, worker: Worker) -> Asked
-    ensures { result ≡ asked number value worker }
-{
-    Asked {
-        number,
-        value,
-        worker,
-    }
+    let mut heads = Heads {
+        own: k.own,
+        got: k.got,
+    };
+    let answer = at_once(&mut heads, layout, page, bits, code, a, b);
+    k.own = heads.own;
+    k.got = heads.got;
+    answer
 }
 
 // A request, decided by its code: 1 to 5 and 13 act at once, 6 to 12 start, and there is no other.
+#[tactic(auto, unfolding(crate::specs::Parts::ask_of, crate::specs::Parts::ask_lists_of, crate::specs::Table::arguments_fit_b, operations::specs::Operations::staged_b))]
 pub fn ask(
-    k: Worker,
-    n: u64,
-    bw: u64,
+    k: &mut Worker,
+    layout: Layout,
     on: bool,
     page: &mut [u64],
     bits: &mut [u64],
     code: u64,
     a: u64,
     b: u64,
-) -> Asked
-    ensures { answered n bw result page.new bits.new ≡ ask_of on (asker k (lent n bw page.old bits.old)) code a b }
+) -> Result<Option<u64>, Refusal>
+    ensures { answered layout.n layout.bw result k.new page.new bits.new ≡ ask_of on (asker k.old (lent layout.n layout.bw page.old bits.old)) code a b }
 {
     match code {
-        INSERT..=RELEASE | ASK_EMPTY => {
-            let r = ask_lists(k, n, bw, page, bits, code, a, b);
-            give(r.number, r.value, with_heads(k, r.own, r.got))
-        }
-        PUSH_SHARED..=AWAIT_TAG => {
-            let r = start(k, n, on, bits, code, a);
-            let worker = r.worker;
-            give(r.number, r.value, worker)
-        }
-        _ => give(NO_SUCH, 0, k),
+        INSERT..=RELEASE | ASK_EMPTY => ask_lists(k, layout, page, bits, code, a, b).map(Some),
+        PUSH_SHARED..=AWAIT_TAG => start(k, layout, on, bits, code, a).map(|()| None),
+        _ => Err(Refusal::NoSuch),
     }
 }

@@ -1,46 +1,29 @@
-// What every call asks first: the page rules with W, and whether a worker is busy. A refusal gives the state back.
+// What every call asks first: the page rules with W, and whether a worker is busy.
 ghost use Rattle.std.specs.Prelude.{◌≡◌, ◌&&◌};
 ghost use Rattle.page.specs.Page.{fits_b, workers_b};
-ghost use Rattle.machine.specs.Config.{reply};
 ghost use Rattle.machine.specs.Table.{any_busy};
 
-use crate::{RECORDS, Reply, State};
-use operations::is_busy;
-use page::{fits, workers_fit};
+use crate::State;
+use page::{Layout, workers_fit};
 
 // Whether n, bw, the two lengths and W keep the page rules.
-pub fn rules(n: u64, bw: u64, w: u64, page_words: usize, bits_words: usize) -> bool
-    ensures { result ≡ (fits_b n bw page_words bits_words && workers_b w) }
+pub fn rules(layout: Layout, w: u64, page_words: usize, bits_words: usize) -> bool
+    ensures { result ≡ (fits_b layout.n layout.bw page_words bits_words && workers_b w) }
 {
-    fits(n, bw, page_words, bits_words) && workers_fit(w)
+    layout.fits(page_words, bits_words) && workers_fit(w)
 }
 
 // Whether any of the first W workers has an operation under way.
-pub fn any_busy(state: State) -> bool
-    ensures { result ≡ any_busy state.workers state.w }
+pub fn any_busy(state: &State) -> bool
+    ensures { result ≡ any_busy state.now.workers state.now.w }
 {
-    let w = state.w;
-    let mut i: usize = 0;
-    while i < RECORDS {
-        if w <= i as u64 {
+    for (i, k) in state.workers.iter().enumerate() {
+        if state.w <= i as u64 {
             return false;
         }
-        let k = state.workers[i];
-        if is_busy(k) {
+        if k.is_busy() {
             return true;
         }
-        i += 1;
     }
     false
-}
-
-// A refusal: the state stays.
-pub fn refuse(number: u64, state: State) -> Reply
-    ensures { result ≡ reply number 0 state }
-{
-    Reply {
-        number,
-        value: 0,
-        state,
-    }
 }

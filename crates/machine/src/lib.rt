@@ -2,7 +2,13 @@
 // 01's numbers, the smallest first, and a refusal changes nothing.
 #![tactic(auto)]
 
+ghost use Rattle.std.specs.Prelude.{◌≡◌};
+ghost use Rattle.machine.specs.Config.{common_of, config, fresh_state, layout_of, rules_b};
+
+use crate::guards::rules;
 use operations::Worker;
+use page::Layout;
+use staged::Common;
 
 pub mod ask;
 pub mod fresh;
@@ -27,10 +33,48 @@ pub struct State {
     pub workers: [Worker; RECORDS],
 }
 
-// An answer and the state after it.
-#[derive(Clone, Copy)]
-pub struct Reply {
-    pub number: u64,
-    pub value: u64,
-    pub state: State,
+impl State {
+    // Heads 0, T off, workers idle.
+    pub fn at_rest(layout: Layout, w: u64) -> State
+        ensures { result ≡ fresh_state layout.n layout.bw w }
+    {
+        State {
+            n: layout.n,
+            bw: layout.bw,
+            w,
+            shared: 0,
+            tagged: 0,
+            on: false,
+            workers: [Worker::resting(0, 0); RECORDS],
+        }
+    }
+
+    // The page's numbers.
+    pub fn layout(&self) -> Layout
+        ensures { result ≡ layout_of self.now }
+    {
+        Layout {
+            n: self.n,
+            bw: self.bw,
+        }
+    }
+
+    // Whether n, bw, W and the lengths of the slices keep the page rules.
+    #[tactic(auto, unfolding(crate::specs::Config::rules_b))]
+    pub fn keeps_rules(&self, page: &[u64], bits: &[u64]) -> bool
+        ensures { result ≡ rules_b (config self.now page.now bits.now) }
+    {
+        rules(self.layout(), self.w, page.len(), bits.len())
+    }
+
+    // What the workers share.
+    pub fn common(&self) -> Common
+        ensures { result ≡ common_of self.now }
+    {
+        Common {
+            shared: self.shared,
+            tagged: self.tagged,
+            on: self.on,
+        }
+    }
 }

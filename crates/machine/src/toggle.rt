@@ -1,80 +1,37 @@
 // T switched on and off: its word and its switch alone. The page rules are tested before.
 ghost use Rattle.std.specs.Prelude.{◌≡◌};
-ghost use Rattle.machine.specs.Parts.{toggled, toggle_on_of, toggle_off_of, toggle_of};
+ghost use Rattle.machine.specs.Parts.{toggles, toggle_on_of, toggle_off_of};
 
-use answers::{BUSY, DONE, NO_SUCH, NOT_EMPTY, SWITCHED};
+use answers::Refusal;
 use words::{masked_ptr_delay_get_delay, masked_ptr_delay_get_ptr};
 
-pub const TURNS_ON: u64 = 3;
-
-pub const TURNS_OFF: u64 = 4;
-
-// The answer, T's word and its switch after it.
-#[derive(Clone, Copy)]
-pub struct Toggled {
-    pub number: u64,
-    pub value: u64,
-    pub tagged: u64,
-    pub on: bool,
-}
-
-// A refusal: T stays.
-fn refuse(number: u64, tagged: u64, on: bool) -> Toggled
-    ensures { result ≡ toggled number 0 tagged on }
-{
-    Toggled {
-        number,
-        value: 0,
-        tagged,
-        on,
-    }
-}
-
 // Switches T on; its word becomes 0.
-pub fn toggle_on(tagged: u64, on: bool) -> Toggled
-    ensures { result ≡ toggle_on_of tagged on }
+pub fn toggle_on(tagged: &mut u64, on: &mut bool) -> Result<u64, Refusal>
+    ensures { toggles result tagged.new on.new ≡ toggle_on_of tagged.old on.old }
 {
-    if on {
-        return refuse(SWITCHED, tagged, on);
+    if *on {
+        return Err(Refusal::Switched);
     }
-    Toggled {
-        number: DONE,
-        value: 0,
-        tagged: 0,
-        on: true,
-    }
+    *tagged = 0;
+    *on = true;
+    Ok(0)
 }
 
 // Switches T off, unless a worker is busy or T's address part is not 0; the tag is the value, and the word becomes 0.
-pub fn toggle_off(busy: bool, tagged: u64, on: bool) -> Toggled
-    ensures { result ≡ toggle_off_of busy tagged on }
+pub fn toggle_off(busy: bool, tagged: &mut u64, on: &mut bool) -> Result<u64, Refusal>
+    ensures { toggles result tagged.new on.new ≡ toggle_off_of busy tagged.old on.old }
 {
     if busy {
-        return refuse(BUSY, tagged, on);
+        return Err(Refusal::Busy);
     }
-    if !on {
-        return refuse(SWITCHED, tagged, on);
+    if !*on {
+        return Err(Refusal::Switched);
     }
-    if masked_ptr_delay_get_ptr(tagged) != 0 {
-        return refuse(NOT_EMPTY, tagged, on);
+    if masked_ptr_delay_get_ptr(*tagged) != 0 {
+        return Err(Refusal::NotEmpty);
     }
-    Toggled {
-        number: DONE,
-        value: masked_ptr_delay_get_delay(tagged),
-        tagged: 0,
-        on: false,
-    }
-}
-
-// Switches T by an event's kind; an unknown kind is refused with 4.
-pub fn toggle(kind: u64, busy: bool, tagged: u64, on: bool) -> Toggled
-    ensures { result ≡ toggle_of kind busy tagged on }
-{
-    if kind == TURNS_ON {
-        return toggle_on(tagged, on);
-    }
-    if kind == TURNS_OFF {
-        return toggle_off(busy, tagged, on);
-    }
-    refuse(NO_SUCH, tagged, on)
+    let tag = masked_ptr_delay_get_delay(*tagged);
+    *tagged = 0;
+    *on = false;
+    Ok(tag)
 }

@@ -13,12 +13,17 @@ use lib.Seq.{drop-cons}
 use borrow.Author.Tests.{eq-eqb, ne_eqb, eqb-true, not-false}
 use Rattle.answers.specs.Numbers.{done, bad_page, no_such, listed, none_left}
 use Rattle.answers.specs.Rows.{Row, row, first, Outcome, outcome, answer}
+use Rattle.std.specs.Prelude.{Result, Ok}
+use Rattle.answers.specs.Refusals.{number_of}
 use Rattle.answers.specs.declared.Answer.{Answer}
+use Rattle.answers.specs.declared.Refusal.{Refusal}
+use Rattle.answers.specs.declared.Refusal.TheVariants.{BadPage, NoWorker, NoSuch, Busy, Idle, Switched, NotEmpty, Listed, NoneLeft, Damaged}
 use Rattle.answers.proofs.Rows.{and_left, first-none, numbered, tried, tried-is}
 use Rattle.bitmap.specs.Bitmap.{listed_count, first_unlisted}
 use Rattle.page.specs.Limits.{max_blocks, max_width}
 use Rattle.page.specs.Page.{Lent, keeps_rules_b, workers_b, block_b, listed_b, place}
 use Rattle.page.proofs.Rules.{rules-facts, block-facts}
+use Rattle.readers.specs.Parts.{readable}
 use Rattle.machine.specs.Readers.{reads_b, answer_unless, listed_count_of, first_unlisted_of, entry_refusal, entry_of, entry_answer_of, equal_leading, compare_refusal, compare_of}
 
 -- ---- a number, or a value
@@ -59,6 +64,19 @@ module _ (c : Lent) (w : ℕ) where
 
 -- ---- entries
 
+-- a refusal's number is none that is done
+pub refused-number : (e : Refusal) → number_of e ≢ 0
+refused-number BadPage p = omega arith
+refused-number NoWorker p = omega arith
+refused-number NoSuch p = omega arith
+refused-number Busy p = omega arith
+refused-number Idle p = omega arith
+refused-number Switched p = omega arith
+refused-number NotEmpty p = omega arith
+refused-number Listed p = omega arith
+refused-number NoneLeft p = omega arith
+refused-number Damaged p = omega arith
+
 module _ (c : Lent) (w a : ℕ) where
   -- by the page rules, a's being a block, and its bit
   pub entry-number-is : {b2 b4 b9 : Bool} → (keeps_rules_b c && workers_b w) ≡ b2 → block_b c.n a ≡ b4 → listed_b c.bits a ≡ b9
@@ -97,6 +115,10 @@ module _ (c : Lent) (w a : ℕ) where
         inside = omega (arith, mul-le-mul_right {m = a + 1} {n = c.n + 1} c.bw (omega arith));
         small = omega (arith, mul-le-mul {n₁ = c.n + 1} {n₂ = max_blocks + 1} {m₂ = max_width} (omega arith) g.narrow);
       }
+
+  -- and it lies there where it may be read
+  pub lies-ok : {r : Result Unit Refusal} {u : Unit} → r ≡ Ok u → readable r ≡ entry_refusal c w a → Lies
+  lies-ok e q = entry-lies (ap readable (sym e) ∙ q) refl
 
   -- its number with value 0
   pub entry-answer-is : {k : ℕ} → k ≡ entry_refusal c w a → answer k 0 ≡ entry_answer_of c w a

@@ -2,145 +2,120 @@
 #![tactic(auto)]
 
 ghost use Rattle.std.specs.Prelude.{◌≡◌};
-ghost use Rattle.answers.specs.Rows.{answer};
+ghost use Rattle.answers.specs.Refusals.{told};
 ghost use Rattle.page.specs.Page.{lent};
 ghost use Rattle.machine.specs.Readers.{listed_count_of, first_unlisted_of, entry_refusal, entry_of, entry_answer_of, equal_leading, compare_refusal, compare_of};
+ghost use Rattle.readers.specs.Parts.{readable};
 
-use answers::{Answer, BAD_PAGE, DONE, LISTED, NO_SUCH, NONE_LEFT};
+use answers::Refusal;
 use machine::guards::rules;
-use page::is_block;
-
-// A number that refuses: value 0.
-fn refuse(number: u64) -> Answer
-    ensures { result ≡ answer number 0 }
-{
-    Answer { number, value: 0 }
-}
+use page::Layout;
 
 // How many blocks are listed.
-pub fn listed_count(n: u64, bw: u64, w: u64, page: &[u64], bits: &[u64]) -> Answer
-    ensures { result ≡ listed_count_of (lent n bw page.now bits.now) w }
+#[tactic(auto, unfolding(machine::specs::Readers::listed_count_of, machine::specs::Readers::reads_b, answers::specs::Rows::first))]
+pub fn listed_count(layout: Layout, w: u64, page: &[u64], bits: &[u64]) -> Result<u64, Refusal>
+    ensures { told result ≡ listed_count_of (lent layout.n layout.bw page.now bits.now) w }
 {
-    if !rules(n, bw, w, page.len(), bits.len()) {
-        return refuse(BAD_PAGE);
+    if !rules(layout, w, page.len(), bits.len()) {
+        return Err(Refusal::BadPage);
     }
-    Answer {
-        number: DONE,
-        value: bitmap::count::listed_count(bits, n),
-    }
+    Ok(bitmap::count::listed_count(bits, layout.n))
 }
 
 // The smallest block that is not listed.
-pub fn first_unlisted(n: u64, bw: u64, w: u64, page: &[u64], bits: &[u64]) -> Answer
-    ensures { result ≡ first_unlisted_of (lent n bw page.now bits.now) w }
+#[tactic(auto, unfolding(machine::specs::Readers::first_unlisted_of, machine::specs::Readers::reads_b, answers::specs::Rows::first))]
+pub fn first_unlisted(layout: Layout, w: u64, page: &[u64], bits: &[u64]) -> Result<u64, Refusal>
+    ensures { told result ≡ first_unlisted_of (lent layout.n layout.bw page.now bits.now) w }
 {
-    if !rules(n, bw, w, page.len(), bits.len()) {
-        return refuse(BAD_PAGE);
+    if !rules(layout, w, page.len(), bits.len()) {
+        return Err(Refusal::BadPage);
     }
-    let found = bitmap::first::first_unlisted(bits, n);
-    if found == 0 {
-        return refuse(NONE_LEFT);
-    }
-    Answer {
-        number: DONE,
-        value: found,
-    }
+    bitmap::first::first_unlisted(bits, layout.n).ok_or(Refusal::NoneLeft)
 }
 
-// 2, 4 or 9 for block a's entry, or 0.
-fn entry_number(n: u64, bw: u64, w: u64, page: &[u64], bits: &[u64], a: u64) -> u64
-    ensures { result ≡ entry_refusal (lent n bw page.now bits.now) w a }
+// Whether the entry of a block may be read: 2, 4 or 9 where it may not.
+#[tactic(auto, unfolding(machine::specs::Readers::entry_refusal, machine::specs::Readers::reads_b, answers::specs::Rows::first))]
+fn entry_readable(layout: Layout, w: u64, page: &[u64], bits: &[u64], a: u64) -> Result<(), Refusal>
+    ensures { readable result ≡ entry_refusal (lent layout.n layout.bw page.now bits.now) w a }
 {
-    if !rules(n, bw, w, page.len(), bits.len()) {
-        return BAD_PAGE;
+    if !rules(layout, w, page.len(), bits.len()) {
+        return Err(Refusal::BadPage);
     }
-    if !is_block(n, a) {
-        return NO_SUCH;
+    if !layout.is_block(a) {
+        return Err(Refusal::NoSuch);
     }
     if bitmap::is_set(bits, a) {
-        return LISTED;
+        return Err(Refusal::Listed);
     }
-    DONE
+    Ok(())
 }
 
 // The part of the page after block a's link word, or an empty part where a number applies.
-pub fn entry<'a>(n: u64, bw: u64, w: u64, page: &'a [u64], bits: &[u64], a: u64) -> &'a [u64]
-    ensures { result.now ≡ entry_of (lent n bw page.now bits.now) w a }
+pub fn entry<'a>(layout: Layout, w: u64, page: &'a [u64], bits: &[u64], a: u64) -> &'a [u64]
+    ensures { result.now ≡ entry_of (lent layout.n layout.bw page.now bits.now) w a }
 {
-    if entry_number(n, bw, w, page, bits, a) != DONE {
-        return &page[0..0];
+    match entry_readable(layout, w, page, bits, a) {
+        Ok(()) => {
+            let from = (a * layout.bw + 1) as usize;
+            let end = (a * layout.bw + layout.bw) as usize;
+            &page[from..end]
+        }
+        Err(_) => &page[..0],
     }
-    let from = (a * bw + 1) as usize;
-    let end = (a * bw + bw) as usize;
-    &page[from..end]
 }
 
 // Which number applies to block a's entry.
-pub fn entry_answer(n: u64, bw: u64, w: u64, page: &[u64], bits: &[u64], a: u64) -> Answer
-    ensures { result ≡ entry_answer_of (lent n bw page.now bits.now) w a }
+#[tactic(auto, unfolding(machine::specs::Readers::entry_answer_of))]
+pub fn entry_answer(layout: Layout, w: u64, page: &[u64], bits: &[u64], a: u64) -> Result<u64, Refusal>
+    ensures { told result ≡ entry_answer_of (lent layout.n layout.bw page.now bits.now) w a }
 {
-    refuse(entry_number(n, bw, w, page, bits, a))
+    entry_readable(layout, w, page, bits, a)?;
+    Ok(0)
 }
 
 // How many words are equal before the first that differ.
 fn equal_leading(x: &[u64], y: &[u64]) -> u64
     ensures { result ≡ equal_leading x.now y.now }
 {
-    let mut i: usize = 0;
-    while i < x.len() {
-        if y.len() <= i {
+    for (i, p) in x.iter().enumerate() {
+        if y.len() <= i || *p != y[i] {
             return i as u64;
         }
-        if x[i] != y[i] {
-            return i as u64;
-        }
-        i += 1;
     }
-    i as u64
+    x.len() as u64
 }
 
-// 2, 4 or 9 for either of two entries, or 0.
-fn compare_number(n: u64, bw: u64, w: u64, page: &[u64], bits: &[u64], a: u64, b: u64) -> u64
-    ensures { result ≡ compare_refusal (lent n bw page.now bits.now) w a b }
+// Whether both entries may be read: 2, 4 or 9 where one may not, the smallest first.
+#[tactic(auto, unfolding(machine::specs::Readers::compare_refusal, machine::specs::Readers::reads_b, answers::specs::Rows::first))]
+fn both_readable(layout: Layout, w: u64, page: &[u64], bits: &[u64], a: u64, b: u64) -> Result<(), Refusal>
+    ensures { readable result ≡ compare_refusal (lent layout.n layout.bw page.now bits.now) w a b }
 {
-    if !rules(n, bw, w, page.len(), bits.len()) {
-        return BAD_PAGE;
+    if !rules(layout, w, page.len(), bits.len()) {
+        return Err(Refusal::BadPage);
     }
-    if !is_block(n, a) {
-        return NO_SUCH;
+    if !layout.is_block(a) || !layout.is_block(b) {
+        return Err(Refusal::NoSuch);
     }
-    if !is_block(n, b) {
-        return NO_SUCH;
+    if bitmap::is_set(bits, a) || bitmap::is_set(bits, b) {
+        return Err(Refusal::Listed);
     }
-    if bitmap::is_set(bits, a) {
-        return LISTED;
-    }
-    if bitmap::is_set(bits, b) {
-        return LISTED;
-    }
-    DONE
+    Ok(())
 }
 
 // How many leading words of two entries are equal; each entry is handed on as a part.
+#[tactic(auto, unfolding(machine::specs::Readers::compare_of))]
 pub fn compare_entries(
-    n: u64,
-    bw: u64,
+    layout: Layout,
     w: u64,
     page: &[u64],
     bits: &[u64],
     a: u64,
     b: u64,
-) -> Answer
-    ensures { result ≡ compare_of (lent n bw page.now bits.now) w a b }
+) -> Result<u64, Refusal>
+    ensures { told result ≡ compare_of (lent layout.n layout.bw page.now bits.now) w a b }
 {
-    let number = compare_number(n, bw, w, page, bits, a, b);
-    if number != DONE {
-        return refuse(number);
-    }
-    let x = entry(n, bw, w, page, bits, a);
-    let y = entry(n, bw, w, page, bits, b);
-    Answer {
-        number: DONE,
-        value: equal_leading(x, y),
-    }
+    both_readable(layout, w, page, bits, a, b)?;
+    let x = entry(layout, w, page, bits, a);
+    let y = entry(layout, w, page, bits, b);
+    Ok(equal_leading(x, y))
 }
