@@ -29,6 +29,7 @@ pub struct Event {
 }
 
 // Lets an event happen, by its kind; the code of a move is its flag.
+#[tactic(auto, unfolding(machine::specs::Events::event_of))]
 pub fn happen(
     state: &mut State,
     page: &mut [u64],

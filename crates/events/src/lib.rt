@@ -62,6 +62,7 @@ fn run(
 }
 
 // Runs the events: the count of them, with each one's answer in its place. Refused with 2, 4 or 10, nothing changes.
+#[tactic(auto, unfolding(machine::specs::Events::events_of, machine::specs::Events::events_refusal, answers::specs::Rows::first))]
 pub fn events(
     state: &mut State,
     page: &mut [u64],

@@ -21,6 +21,7 @@ use page::Layout;
 mod spelling;
 
 // Writes the state unless the call was refused, and tells its answer.
+#[tactic(auto, unfolding(crate::specs::Calls::written))]
 fn finish(words: &mut [u64; STATE_WORDS], s: State, told: Result<Option<u64>, Refusal>) -> Answer
     ensures answer { result ≡ progress told }
     ensures words { words.new ≡ written words.old (progress told).number s }
@@ -119,6 +120,7 @@ pub extern "C" fn albmerik_events(
 }
 
 // How many blocks are listed.
+#[tactic(auto, unfolding(crate::specs::Spelling::spelled))]
 #[unsafe(no_mangle)]
 pub extern "C" fn albmerik_listed_count(
     state: &[u64; STATE_WORDS],
@@ -131,6 +133,7 @@ pub extern "C" fn albmerik_listed_count(
 }
 
 // The smallest block that is not listed.
+#[tactic(auto, unfolding(crate::specs::Spelling::spelled))]
 #[unsafe(no_mangle)]
 pub extern "C" fn albmerik_first_unlisted(
     state: &[u64; STATE_WORDS],
@@ -143,6 +146,7 @@ pub extern "C" fn albmerik_first_unlisted(
 }
 
 // Which number applies to block a's entry.
+#[tactic(auto, unfolding(crate::specs::Spelling::spelled))]
 #[unsafe(no_mangle)]
 pub extern "C" fn albmerik_entry_answer(
     state: &[u64; STATE_WORDS],
@@ -156,6 +160,7 @@ pub extern "C" fn albmerik_entry_answer(
 }
 
 // How many leading words of two entries are equal.
+#[tactic(auto, unfolding(crate::specs::Spelling::spelled))]
 #[unsafe(no_mangle)]
 pub extern "C" fn albmerik_compare_entries(
     state: &[u64; STATE_WORDS],

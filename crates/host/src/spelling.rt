@@ -32,6 +32,7 @@ const FIRST_RECORD: usize = 6;
 const RECORD_WORDS: usize = 8;
 
 // The page's numbers.
+#[tactic(auto, unfolding(crate::specs::Spelling::spelled))]
 pub fn layout(words: &[u64; STATE_WORDS]) -> Layout
     ensures { result ≡ layout_of (spelled words.now) }
 {
@@ -63,7 +64,16 @@ fn worker_at(words: &[u64; STATE_WORDS], i: usize) -> Worker
 pub fn load(words: &[u64; STATE_WORDS]) -> State
     ensures { result ≡ spelled words.now }
 {
-    let workers = [0, 1, 2, 3, 4, 5, 6, 7].map(|i| worker_at(words, i));
+    let workers = [
+        worker_at(words, 0),
+        worker_at(words, 1),
+        worker_at(words, 2),
+        worker_at(words, 3),
+        worker_at(words, 4),
+        worker_at(words, 5),
+        worker_at(words, 6),
+        worker_at(words, 7),
+    ];
     State {
         n: words[N],
         bw: words[BW],
