@@ -11,7 +11,7 @@ fn first_clear(word: u64) -> u64
     u64::trailing_zeros(!word) as u64
 }
 
-// Word w, with bit 0 of the bitmap set.
+// Word w, with bit 0 of the bitmap set; the count has it clear, by another operator.
 fn with_zero(bits: &[u64], w: u64) -> u64
     ensures { result ≡ with_zero bits.now w }
 {

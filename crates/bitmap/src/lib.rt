@@ -33,7 +33,7 @@ pub fn set(bits: &mut [u64], i: u64)
     }
 }
 
-// Clears bit i.
+// Clears bit i. One function with `set` would choose between two operators, and each caller knows which it wants.
 pub fn clear(bits: &mut [u64], i: u64)
     ensures { bits.new ≡ bit_put bits.old i 0 }
 {

@@ -9,7 +9,8 @@ use page::{Layout, set_link};
 // Writes the links of blocks a to a+b−1, the last to own; the head. Laid from the last down, each is an insert.
 pub fn lay(page: &mut [u64], layout: Layout, a: u64, b: u64, own: u64) -> u64
     requires { (a + b ≤ max_blocks + 1) × (layout.bw ≤ max_width) }
-    ensures { (result ≡ head_of (place layout.bw) own (up_from a b)) × (page.new ≡ laid (place layout.bw) page.old own (up_from a b)) }
+    ensures { (result ≡ head_of (place layout.bw) own (up_from a b))
+        × (page.new ≡ laid (place layout.bw) page.old own (up_from a b)) }
 {
     let mut head = own;
     for i in (a..a + b).rev() {

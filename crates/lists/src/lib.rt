@@ -1,6 +1,6 @@
-// Upstream's LL over two heads and the two lent slices. Each method takes the page's numbers and the slices, and changes
-// the heads in place. No public function has a requires: each refuses by document 01's numbers, the smallest first, and a
-// refusal changes nothing.
+// Upstream's LL over two heads and the two lent slices. Each method takes the page's numbers and the slices, and
+// changes the heads in place. No public function has a requires: each refuses by document 01's numbers, the smallest
+// first, and a refusal changes nothing.
 #![tactic(auto)]
 
 ghost use Rattle.std.specs.Prelude.{◌≡◌};
@@ -27,7 +27,7 @@ pub fn empty() -> u64
     new()
 }
 
-// The heads of a worker's two lists.
+// The heads of a worker's two lists: addresses, as the page's words hold them, where 0 means none.
 #[derive(Clone, Copy, Debug, PartialEq, Eq)]
 pub struct Heads {
     pub own: u64,
@@ -43,7 +43,8 @@ impl Heads {
         bits: &mut [u64],
         a: u64,
     ) -> Result<u64, Refusal>
-        ensures { came layout.n layout.bw result self.new page.new bits.new ≡ insert_of (lists self.old.own self.old.got layout.n layout.bw page.old bits.old) a }
+        ensures { came layout.n layout.bw result self.new page.new bits.new
+            ≡ insert_of (lists self.old.own self.old.got layout.n layout.bw page.old bits.old) a }
     {
         if !layout.fits(page.len(), bits.len()) {
             return Err(Refusal::BadPage);
@@ -71,7 +72,8 @@ impl Heads {
         page: &[u64],
         bits: &mut [u64],
     ) -> Result<u64, Refusal>
-        ensures { came layout.n layout.bw result self.new page.now bits.new ≡ pop_of (lists self.old.own self.old.got layout.n layout.bw page.now bits.old) }
+        ensures { came layout.n layout.bw result self.new page.now bits.new
+            ≡ pop_of (lists self.old.own self.old.got layout.n layout.bw page.now bits.old) }
     {
         if !layout.fits(page.len(), bits.len()) {
             return Err(Refusal::BadPage);
@@ -94,7 +96,8 @@ impl Heads {
 
     // Puts got before own: the link of got's last block becomes own's head, and got becomes empty.
     pub fn append(&mut self, layout: Layout, page: &mut [u64], bits: &[u64]) -> Result<u64, Refusal>
-        ensures { came layout.n layout.bw result self.new page.new bits.now ≡ append_of (lists self.old.own self.old.got layout.n layout.bw page.old bits.now) }
+        ensures { came layout.n layout.bw result self.new page.new bits.now
+            ≡ append_of (lists self.old.own self.old.got layout.n layout.bw page.old bits.now) }
     {
         if !layout.fits(page.len(), bits.len()) {
             return Err(Refusal::BadPage);
@@ -121,7 +124,8 @@ impl Heads {
         a: u64,
         b: u64,
     ) -> Result<u64, Refusal>
-        ensures { came layout.n layout.bw result self.new page.new bits.new ≡ extend_of (lists self.old.own self.old.got layout.n layout.bw page.old bits.old) a b }
+        ensures { came layout.n layout.bw result self.new page.new bits.new
+            ≡ extend_of (lists self.old.own self.old.got layout.n layout.bw page.old bits.old) a b }
     {
         if !layout.fits(page.len(), bits.len()) {
             return Err(Refusal::BadPage);
@@ -147,7 +151,8 @@ impl Heads {
         page: &[u64],
         bits: &mut [u64],
     ) -> Result<u64, Refusal>
-        ensures { came layout.n layout.bw result self.new page.now bits.new ≡ release_of (lists self.old.own self.old.got layout.n layout.bw page.now bits.old) }
+        ensures { came layout.n layout.bw result self.new page.now bits.new
+            ≡ release_of (lists self.old.own self.old.got layout.n layout.bw page.now bits.old) }
     {
         if !layout.fits(page.len(), bits.len()) {
             return Err(Refusal::BadPage);
@@ -160,7 +165,8 @@ impl Heads {
 
     // Answers 1 if own is empty, else 0. It looks at the head alone.
     pub fn is_empty(&self, layout: Layout, page: &[u64], bits: &[u64]) -> Result<u64, Refusal>
-        ensures { came layout.n layout.bw result self.now page.now bits.now ≡ empty_of (lists self.now.own self.now.got layout.n layout.bw page.now bits.now) }
+        ensures { came layout.n layout.bw result self.now page.now bits.now
+            ≡ empty_of (lists self.now.own self.now.got layout.n layout.bw page.now bits.now) }
     {
         if !layout.fits(page.len(), bits.len()) {
             return Err(Refusal::BadPage);

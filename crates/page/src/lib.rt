@@ -45,7 +45,7 @@ pub struct Walked {
     pub last: u64,
 }
 
-// A page's numbers: n blocks of bw words.
+// A page's numbers: n blocks of bw words. It has no invariant: the numbers come from outside, and `fits` tests them.
 #[derive(Clone, Copy, Debug, PartialEq, Eq)]
 pub struct Layout {
     pub n: u64,
@@ -83,7 +83,7 @@ impl Layout {
         b - 1 <= self.n - a
     }
 
-    // The address of block a; 0, which means none, where a or bw is past its limit.
+    // The address of block a; 0 where a or bw is past its limit. No Option: a head is a word, and 0 means none.
     pub fn address(self, a: u64) -> u64
         ensures { result ≡ cond (leb self.bw max_width && leb a max_blocks) (address_of self.bw a) 0 }
     {
@@ -93,7 +93,7 @@ impl Layout {
         8 * (a * self.bw)
     }
 
-    // The block at an address; 0 where bw is past its limits.
+    // The block at an address; 0, which is no block, where bw is past its limits.
     pub fn block(self, h: u64) -> u64
         ensures { result ≡ cond (leb 1 self.bw && leb self.bw max_width) (block_of self.bw h) 0 }
     {

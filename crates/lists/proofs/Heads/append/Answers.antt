@@ -7,7 +7,6 @@ use Rattle.page.proofs.Rules.{rules-facts}
 use Rattle.page.proofs.Running.{told-none, told-ends}
 use Rattle.lists.specs.Lists.{lists}
 use Rattle.lists.specs.Own.{got_walk}
-use Rattle.std.proofs.lemmas.Result.{err_from_is_err_and}
 use Rattle.answers.specs.declared.Refusal.TheVariants.{Damaged}
 use Rattle.lists.proofs.Arms.{append-is, append-none, append-acts}
 use Rattle.lists.proofs.Heads.append.Goals as goal
@@ -27,9 +26,9 @@ returns-then-not-sound c =
 pub returns-in_err-taken : goal.returns-in_err-taken
 returns-in_err-taken c =
     let none : None ≡ c.walk.result = grind arith in
-    let p = err_from_is_err_and c.from_residual.result c.from_residual.ensures.1 in
     let e : c.from_residual.result ≡ Err Damaged = grind arith in
-    rw e (append-is _ (by c.fits.ensures c.if-not-fits.false) (ne_eqb _ _ c.if-self-eq0.false) (by c.sound.ensures c.if-not-sound.false) (told-none _ (none ∙ c.walk.ensures)))
+    let own = by c.sound.ensures c.if-not-sound.false in
+    rw e (append-is _ (by c.fits.ensures c.if-not-fits.false) (ne_eqb _ _ c.if-self-eq0.false) own (told-none _ (none ∙ c.walk.ensures)))
 
 pub returns : goal.returns
 returns c =

@@ -11,4 +11,7 @@ pub returns-then-not-fits : goal.returns-then-not-fits
 returns-then-not-fits c = empty-is _ (by c.fits.ensures c.if-not-fits.true) refl
 
 pub returns : goal.returns
-returns c = ap (λ (v : ℕ). outcome done v (lists c.args.self.now.own c.args.self.now.got c.args.layout.n c.args.layout.bw c.args.page.now c.args.bits.now)) c.from.ensures ∙ empty-is _ (by c.fits.ensures c.if-not-fits.false) refl
+returns c =
+    let x = c.args in
+    let l = lists x.self.now.own x.self.now.got x.layout.n x.layout.bw x.page.now x.bits.now in
+    ap (λ (v : ℕ). outcome done v l) c.from.ensures ∙ empty-is l (by c.fits.ensures c.if-not-fits.false) refl
