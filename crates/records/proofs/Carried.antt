@@ -9,10 +9,10 @@ use lib.Dec.{eqb, leb, ltb}
 use lib.ListN.{length, get_or, drop, length-drop, length-append, get_or-append}
 use lib.Seq.{get_or-drop}
 use borrow.Author.Tests.{leb-true, leb-false, lt-leb, le-leb, le-ltb}
-use Rattle.records.specs.declared.Event.{Event}
-use Rattle.records.specs.declared.Decoded.{Decoded}
-use Rattle.records.specs.declared.Decoded.TheVariants.{Event as event, End, Cut, Unknown}
-use Rattle.records.specs.Records.{event_at, decode_at}
+use Rattle.std.proofs.Common.{Result, Ok, Err}
+use Rattle.records.specs.declared.Stop.{Stop}
+use Rattle.records.specs.declared.Stop.TheVariants.{Ended, Cut, Unknown}
+use Rattle.records.specs.Records.{EventWords, event_at, decode_at}
 
 -- two places whose 8 bytes are the same have the same event
 event-same : (s t : List ℕ) (i j : ℕ) → ((m : ℕ) → m < 8 → get_or s (i + m) 0 ≡ get_or t (j + m) 0) → event_at s i ≡ event_at t j
@@ -25,7 +25,7 @@ event-same s t i j h =
     let h7 = h 7 (omega arith) in
     fields (cc) (h 2 (omega arith)) (h 3 (omega arith)) (omega arith) (omega arith)
   where
-    fields : {e f : Event} → e.kind ≡ f.kind → e.worker ≡ f.worker → e.code ≡ f.code → e.a ≡ f.a → e.b ≡ f.b → e ≡ f
+    fields : {e f : EventWords} → e.kind ≡ f.kind → e.worker ≡ f.worker → e.code ≡ f.code → e.a ≡ f.a → e.b ≡ f.b → e ≡ f
     fields k w c a b = λ x. record { kind = k x; worker = w x; code = c x; a = a x; b = b x }
 
 -- what stands at a place, by the bytes left there and their event
@@ -37,8 +37,8 @@ decode-same s t i j p q r =
     ∙ ap (λ (b : Bool). given (leb (length t) j) b (event_at s i)) q
     ∙ ap (given (leb (length t) j) (ltb (length t - j) 8)) r
   where
-    given : Bool → Bool → Event → Decoded
-    given p q e = cond p End (cond q Cut (cond (eqb e.kind 0) Unknown (event e)))
+    given : Bool → Bool → EventWords → Result EventWords Stop
+    given p q e = cond p (Err Ended) (cond q (Err Cut) (cond (eqb e.kind 0) (Err Unknown) (Ok e)))
 
 -- the bytes from k on: at a place there stands what stands k further in the whole
 pub decode-rest : (bytes : List ℕ) (k at : ℕ) → decode_at (drop k bytes) at ≡ decode_at bytes (k + at)

@@ -4,3 +4,4 @@ pub mod Filling
 pub mod Carried
 pub mod Example
 pub mod Marks
+pub mod Putting

@@ -1,9 +1,8 @@
 -- What the bytes of a record say: the four marks, the fields, and what stands at a place (document 01, Checked by
 -- hand). No proof stands in this file.
-use Rattle.std.specs.Prelude.{ℕ, ◌+◌, ◌*◌, ◌≤◌, ◌<◌, ◌≡◌, ◌≢◌, ◌↔◌, List, length, get_or}
-use Rattle.records.specs.declared.Event.{Event}
-use Rattle.records.specs.declared.Decoded.TheVariants.{Event as event, End, Cut, Unknown}
-use Rattle.records.specs.Records.{kind_of, event_at, decode_at}
+use Rattle.std.specs.Prelude.{ℕ, ◌+◌, ◌*◌, ◌≤◌, ◌<◌, ◌≡◌, ◌≢◌, ◌↔◌, List, Ok, Err, length, get_or}
+use Rattle.records.specs.declared.Stop.TheVariants.{Ended, Cut, Unknown}
+use Rattle.records.specs.Records.{kind_of, EventWords, event_at, decode_at}
 
 -- Two bytes are these.
 abbrev pub Pair : ℕ → ℕ → ℕ → ℕ → Type 0
@@ -21,7 +20,7 @@ abbrev pub MarksAre : Type 0
 MarksAre = (m n : ℕ) → MarkTells m n
 
 -- The mark, worker, code, and a and b low byte first.
-pub record EventTells (bytes : List ℕ) (at : ℕ) (e : Event) : Type 0 where
+pub record EventTells (bytes : List ℕ) (at : ℕ) (e : EventWords) : Type 0 where
   pub kind : e.kind ≡ kind_of (get_or bytes at 0) (get_or bytes (at + 1) 0)
   pub worker : e.worker ≡ get_or bytes (at + 2) 0
   pub code : e.code ≡ get_or bytes (at + 3) 0
@@ -31,10 +30,10 @@ pub record EventTells (bytes : List ℕ) (at : ℕ) (e : Event) : Type 0 where
 -- Past the last byte is the end; fewer than 8 bytes are a cut record; 8 bytes are an event, or an unknown mark.
 pub record PlaceTells (bytes : List ℕ) (at : ℕ) : Type 0 where
   pub fields : EventTells bytes at (event_at bytes at)
-  pub end : length bytes ≤ at → decode_at bytes at ≡ End
-  pub cut : at < length bytes → length bytes < at + 8 → decode_at bytes at ≡ Cut
-  pub unknown : at + 8 ≤ length bytes → kind_of (get_or bytes at 0) (get_or bytes (at + 1) 0) ≡ 0 → decode_at bytes at ≡ Unknown
-  pub whole : at + 8 ≤ length bytes → kind_of (get_or bytes at 0) (get_or bytes (at + 1) 0) ≢ 0 → decode_at bytes at ≡ event (event_at bytes at)
+  pub end : length bytes ≤ at → decode_at bytes at ≡ Err Ended
+  pub cut : at < length bytes → length bytes < at + 8 → decode_at bytes at ≡ Err Cut
+  pub unknown : at + 8 ≤ length bytes → kind_of (get_or bytes at 0) (get_or bytes (at + 1) 0) ≡ 0 → decode_at bytes at ≡ Err Unknown
+  pub whole : at + 8 ≤ length bytes → kind_of (get_or bytes at 0) (get_or bytes (at + 1) 0) ≢ 0 → decode_at bytes at ≡ Ok (event_at bytes at)
 
 abbrev pub RecordsAre : Type 0
 RecordsAre = (bytes : List ℕ) (at : ℕ) → PlaceTells bytes at

@@ -3,162 +3,134 @@
 #![tactic(auto)]
 
 ghost use Rattle.std.specs.Prelude.{◌≡◌, ◌+◌, ◌*◌, ◌≤◌, length};
-ghost use Rattle.records.specs.Records.{is_mark, kind_of, two_bytes, event_at, decode_at};
+ghost use Rattle.records.specs.Records.{kind_number, two_bytes, known, marked_by, words_of, read, decode_at};
 ghost use Rattle.records.specs.Fill.{going, put_event, turned, filling, next, came, fill_of};
 
+use std::convert::{From, TryFrom};
+
+// What a record's mark stands for, with the number that an event's first word has.
+#[derive(Clone, Copy, Debug, PartialEq, Eq)]
+pub enum Kind {
+    Request = 1,
+    Move = 2,
+    On = 3,
+    Off = 4,
+}
+
 // What a record asks for. A move's flag is its code: nonzero is set.
-#[derive(Clone, Copy)]
+#[derive(Clone, Copy, Debug, PartialEq, Eq)]
 pub struct Event {
-    pub kind: u64,
+    pub kind: Kind,
     pub worker: u64,
     pub code: u64,
     pub a: u64,
     pub b: u64,
 }
 
-// What stands at a place of the bytes.
-#[derive(Clone, Copy)]
-pub enum Decoded {
-    // a whole record with a known mark
-    Event(Event),
+// Why no more records are used.
+#[derive(Clone, Copy, Debug, PartialEq, Eq)]
+pub enum Stop {
     // no byte is left
-    End,
+    Ended,
     // fewer than 8 bytes are left
     Cut,
     // no such mark
     Unknown,
+    // no room for five more words
+    NoRoom,
 }
 
 // How many records were decoded, and why no more.
-#[derive(Clone, Copy)]
+#[derive(Clone, Copy, Debug, PartialEq, Eq)]
 pub struct Filled {
-    pub records: u64,
-    pub stop: u64,
+    pub records: usize,
+    pub stop: Stop,
 }
 
-// The kinds of an event; 0 is no kind.
-pub const REQUEST: u64 = 1;
+// The bytes of a record, and the words of an event.
+const RECORD_BYTES: usize = 8;
 
-pub const MOVE: u64 = 2;
+const EVENT_WORDS: usize = 5;
 
-pub const ON: u64 = 3;
+impl From<Kind> for u64 {
+    ghost from_gives = { λ kind n. n ≡ kind_number kind };
 
-pub const OFF: u64 = 4;
+    fn from(kind: Kind) -> u64 {
+        kind as u64
+    }
+}
 
-// Why a fill stopped: the bytes ended, a cut record, an unknown mark, no room.
-pub const ENDED: u64 = 0;
+impl TryFrom<[u8; 2]> for Kind {
+    type Error = Stop;
 
-pub const CUT: u64 = 1;
+    ghost try_from_gives = { λ mark r. known r ≡ marked_by mark };
 
-pub const UNKNOWN: u64 = 2;
-
-pub const NO_ROOM: u64 = 3;
-
-// It did not stop yet.
-const GOING: u64 = 4;
-
-// A byte as a word.
-fn wide(x: u8) -> u64
-    ensures { result ≡ x }
-{
-    x as u64
+    #[tactic(auto, unfolding(crate::specs::Records::kind_of, crate::specs::Records::is_mark, answers::specs::Rows::all, answers::specs::Rows::first))]
+    fn try_from(mark: [u8; 2]) -> Result<Kind, Stop> {
+        match &mark {
+            b"SU" => Ok(Kind::Request),
+            b"MV" => Ok(Kind::Move),
+            b"EN" => Ok(Kind::On),
+            b"DI" => Ok(Kind::Off),
+            _ => Err(Stop::Unknown),
+        }
+    }
 }
 
 // The number of two bytes, low first.
 fn two_bytes(low: u8, high: u8) -> u64
     ensures { result ≡ two_bytes low high }
 {
-    wide(low) + 256 * wide(high)
+    u64::from(u16::from_le_bytes([low, high]))
 }
 
-// Whether two bytes are the mark x y.
-fn is_mark(x: u8, y: u8, first: u8, second: u8) -> bool
-    ensures { result ≡ is_mark x y first second }
-{
-    first == x && second == y
-}
-
-// The kind that a mark stands for; 0 if none.
-fn mark_kind(first: u8, second: u8) -> u64
-    ensures { result ≡ kind_of first second }
-{
-    if is_mark(0x53, 0x55, first, second) {
-        return REQUEST;
-    }
-    if is_mark(0x4D, 0x56, first, second) {
-        return MOVE;
-    }
-    if is_mark(0x45, 0x4E, first, second) {
-        return ON;
-    }
-    if is_mark(0x44, 0x49, first, second) {
-        return OFF;
-    }
-    0
-}
-
-// The event of the 8 bytes from at on.
-fn event_at(bytes: &[u8], at: usize) -> Event
-    requires { at + 8 ≤ length bytes.now }
-    ensures { result ≡ event_at bytes.now at }
-{
-    Event {
-        kind: mark_kind(bytes[at], bytes[at + 1]),
-        worker: wide(bytes[at + 2]),
-        code: wide(bytes[at + 3]),
-        a: two_bytes(bytes[at + 4], bytes[at + 5]),
-        b: two_bytes(bytes[at + 6], bytes[at + 7]),
-    }
-}
-
-// What stands at a place.
-pub fn decode(bytes: &[u8], at: usize) -> Decoded
-    ensures { result ≡ decode_at bytes.now at }
+// What stands at a place: an event, or why none does.
+pub fn decode(bytes: &[u8], at: usize) -> Result<Event, Stop>
+    ensures { read result ≡ decode_at bytes.now at }
 {
     if bytes.len() <= at {
-        return Decoded::End;
+        return Err(Stop::Ended);
     }
-    if bytes.len() - at < 8 {
-        return Decoded::Cut;
+    if bytes.len() - at < RECORD_BYTES {
+        return Err(Stop::Cut);
     }
-    let event = event_at(bytes, at);
-    if event.kind == 0 {
-        return Decoded::Unknown;
-    }
-    Decoded::Event(event)
+    let kind = Kind::try_from([bytes[at], bytes[at + 1]])?;
+    Ok(Event {
+        kind,
+        worker: u64::from(bytes[at + 2]),
+        code: u64::from(bytes[at + 3]),
+        a: two_bytes(bytes[at + 4], bytes[at + 5]),
+        b: two_bytes(bytes[at + 6], bytes[at + 7]),
+    })
 }
 
 // Writes an event's five words from to on.
 fn put(words: &mut [u64], to: usize, event: Event)
     requires { to + 5 ≤ length words.old }
-    ensures { words.new ≡ put_event words.old to event }
+    ensures { words.new ≡ put_event words.old to (words_of event) }
 {
-    words[to] = event.kind;
-    words[to + 1] = event.worker;
-    words[to + 2] = event.code;
-    words[to + 3] = event.a;
-    words[to + 4] = event.b;
+    let five = [
+        u64::from(event.kind),
+        event.worker,
+        event.code,
+        event.a,
+        event.b,
+    ];
+    words[to..to + EVENT_WORDS].copy_from_slice(&five);
 }
 
-// Puts the event of record k behind the k before it; says why that cannot be, or `GOING`.
-fn fill_one(bytes: &[u8], events: &mut [u64], k: u64) -> u64
+// Puts the event of record k behind the k before it, or says why that cannot be.
+fn fill_one(bytes: &[u8], events: &mut [u64], k: usize) -> Result<(), Stop>
     requires { (8 * k ≤ length bytes.now) × (5 * k ≤ length events.old) }
     ensures { turned k result events.new ≡ next bytes.now (filling k going events.old) }
 {
-    let at = (8 * k) as usize;
-    let to = (5 * k) as usize;
-    match decode(bytes, at) {
-        Decoded::End => ENDED,
-        Decoded::Cut => CUT,
-        Decoded::Unknown => UNKNOWN,
-        Decoded::Event(event) => {
-            if events.len() - to < 5 {
-                return NO_ROOM;
-            }
-            put(events, to, event);
-            GOING
-        }
+    let event = decode(bytes, RECORD_BYTES * k)?;
+    let to = EVENT_WORDS * k;
+    if events.len() - to < EVENT_WORDS {
+        return Err(Stop::NoRoom);
     }
+    put(events, to, event);
+    Ok(())
 }
 
 // Decodes the records from the start of bytes to five words each: kind, worker, code, a, b. It stops where the bytes end,
@@ -166,12 +138,11 @@ fn fill_one(bytes: &[u8], events: &mut [u64], k: u64) -> u64
 pub fn fill(bytes: &[u8], events: &mut [u64]) -> Filled
     ensures { came result events.new ≡ fill_of bytes.now events.old }
 {
-    let mut records: u64 = 0;
+    let mut records = 0;
     loop {
-        let stop = fill_one(bytes, &mut *events, records);
-        if stop != GOING {
-            return Filled { records, stop };
+        match fill_one(bytes, &mut *events, records) {
+            Ok(()) => records += 1,
+            Err(stop) => return Filled { records, stop },
         }
-        records += 1;
     }
 }
