@@ -1,5 +1,5 @@
 -- The turns of a fill, as the code makes them: what one turn does, and that filling stays as it stopped. Assumes nothing.
-use Rattle.std.proofs.Common.{◌≡◌, ℕ, zero, suc, ◌+◌, ◌-◌, ◌*◌, ◌/◌, ◌≤◌, Bool, cond, List, ltb, length, Some, Result, Ok, Err, sym, ap, ◌∙◌, add-one, arith}
+use Rattle.std.proofs.Common.{◌≡◌, ℕ, zero, suc, ◌+◌, ◌-◌, ◌*◌, ◌/◌, ◌≤◌, Bool, cond, List, ltb, length, Some, Result, Ok, sym, ap, ◌∙◌, add-one, arith}
 use Rattle.records.specs.declared.Stop.{Stop}
 use Rattle.records.specs.Records.{EventWords, decode_at}
 use Rattle.records.specs.Fill.{no_room, going, Filling, filling, put_event, put_next, next, fill_in, fill_of}

@@ -1,8 +1,7 @@
 -- At each return the tests that led there say what stands at the place.
-use Rattle.std.proofs.Common.{◌≡◌, sym, refl, ◌∙◌, ap, Ok}
+use Rattle.std.proofs.Common.{sym, refl}
 use Rattle.std.proofs.lemmas.Result.{err_from_is_err_and}
 use borrow.Author.Tests.{le-leb, lt-leb, lt-ltb}
-use Rattle.records.specs.Records.{EventWords}
 use Rattle.records.proofs.Decoding.{decode_is, unmarked-is, marked-is}
 use Rattle.records.proofs.decode.Goals as goal
 

@@ -1,5 +1,5 @@
 -- What holds of the turns so far, one turn more, and the whole where it stops.
-use Rattle.std.proofs.Common.{refl, arith, ◌*◌}
+use Rattle.std.proofs.Common.{refl, arith}
 use Rattle.records.specs.Fill.{fill_in}
 use Rattle.records.proofs.Filling.{holds_at, turn-used}
 use Rattle.records.proofs.Turns.{turned-is, turn-out}

@@ -1,5 +1,5 @@
 -- The five words are in their place.
-use Rattle.std.proofs.Common.{◌∙◌, refl, arith, rules}
+use Rattle.std.proofs.Common.{◌∙◌, refl, arith}
 use Rattle.std.proofs.lemmas.Slice.{put_mid-paste}
 use Rattle.records.specs.Records.{words_of}
 use Rattle.records.proofs.Putting.{put-paste}
