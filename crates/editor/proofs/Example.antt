@@ -23,16 +23,22 @@ use Rattle.machine.specs.Events.{event_of, events_refusal, events_of}
 use Rattle.machine.specs.Events as events
 use Rattle.records.specs.Records.{is_mark, kind_of, decode_at}
 use Rattle.records.specs.Fill.{next, fill_in}
-use lib.Dec.{eqb}
 use lib.ListN.{replicate}
-use Rattle.records.specs.Fill.{ended}
 use Rattle.records.proofs.Example.{whole_case}
+use Rattle.std.specs.Prelude.{Bool, true, false, Option, Some}
+use Rattle.records.specs.declared.Stop.{Stop}
+use Rattle.records.specs.declared.Stop.TheVariants.{Ended}
 use Rattle.editor.specs.Text.{decimal, lines_text, chunk_text}
 use Rattle.editor.specs.Chunk.{Performed, perform_of}
 
 -- what comes of it on a fresh page (n = 63, bw = 4, W = 8)
 abbrev whole : Performed
 whole = perform_of (fresh_of 63 4 8 (replicate 256 0) (replicate 1 0)).after whole_case (replicate 80 0) (replicate 30 0)
+
+-- whether the bytes ended on a record's end
+abbrev is_ended : Option Stop → Bool
+is_ended (Some Ended) = true
+is_ended _ = false
 
 -- the fifteen lines
 abbrev whole_lines : List ℕ
@@ -53,6 +59,6 @@ whole_lines =
     ∷ 48 ∷ 32 ∷ 49 ∷ 10
     ∷ 48 ∷ 32 ∷ 57 ∷ 10 ∷ []
 
-pub whole-printed : chunk_text whole.answers whole.records (eqb whole.stop ended) ≡ whole_lines
+pub whole-printed : chunk_text whole.answers whole.records (is_ended whole.stop) ≡ whole_lines
 unfolding all first digit put_digit bit_at bit_put any_from put_run fits_b workers_b block_b run_b good_b sound_b walk_from last_of up_from insert_act pop_act append_act extend_act release_act empty_act staged_b pushes_b takes_b on_shared_b on_tagged_b word_of off_b full_b first_stage stages_of one_of begun start_fits_b start_act hand_bad tag_on_shared seen_bad head_bad sightings_bad tag_bad any damaged_b load_ask load_await load_act write_act new_word exchange_value fails_b exchange_act swap_act mask_act move_act rules_b table arguments_fit_b any_named own_unsound link_unsound walk_broken tests_of move_refusal any_busy on_refusal off_refusal at_once_act request_act request_of move_of switch_on_of switch_off_of fresh_of is_mark kind_of decode_at next fill_in event_of events.run_of events_refusal events_of decimal lines_text
 whole-printed = refl

@@ -2,6 +2,7 @@
 use Prim.Native.Nat.{ℕ, ◌*◌, ◌≤◌}
 use mathlib.Core.Path.{◌≡◌, refl, sym, ap, ◌∙◌, subst}
 use mathlib.Core.List.{List}
+use Rattle.std.proofs.Common.{Some}
 use native.Mathlib.Omega.{arith}
 use lib.ListN.{length, take}
 use Rattle.answers.specs.Rows.{Outcome}
@@ -26,6 +27,6 @@ filled-room bytes events e = let h = filled-holds bytes events e in omega (arith
 
 pub perform-is : (c : Config) (bytes events answers : List ℕ) {r : Filled} {words : List ℕ} → came r words ≡ fill_of bytes events
     → {p : Reply} {page bits after : List ℕ} → came_run p page bits after ≡ events_of (ran c answers) (take (event_words * r.records) words)
-    → performed r.records r.stop (config p.state page bits) after ≡ perform_of c bytes events answers
+    → performed r.records (Some r.stop) (config p.state page bits) after ≡ perform_of c bytes events answers
 perform-is c bytes events answers {r} e f =
-    ap (λ (o : Outcome Run). performed r.records r.stop o.after.config o.after.answers) f ∙ ap (run_of c answers) e
+    ap (λ (o : Outcome Run). performed r.records (Some r.stop) o.after.config o.after.answers) f ∙ ap (run_of c answers) e

@@ -2,16 +2,17 @@
 // unknown mark or a cut record. It reads and writes here; decoding, the machine and the text are calls.
 #![tactic(auto)]
 
-ghost use Rattle.std.specs.Prelude.{◌≡◌, ◌&&◌, ◌*◌, ◌≤◌, eqb, length, OnOk};
+ghost use Rattle.std.specs.Prelude.{◌≡◌, ◌&&◌, ◌*◌, ◌≤◌, Some, eqb, length, take, OnOk};
 ghost use Rattle.std.specs.Io.KnownBytes.{Appends};
 ghost use Rattle.machine.specs.Config.{config};
-ghost use Rattle.editor.specs.Chunk.{Room, performed, perform_of};
+ghost use Rattle.editor.specs.Chunk.{performed, perform_of};
 
 mod text;
 
 use anyhow::{Context, Result};
 use events::{ANSWER_WORDS, EVENT_WORDS};
 use machine::State;
+use records::{Filled, Stop};
 use std::io;
 use std::io::{Read, Write};
 
@@ -41,133 +42,96 @@ const TEXT: usize = text::LINE * RECORDS + text::BAD;
 // A proved loop has to end, and nothing says that the input does: it is read at most so often, more than any run does.
 const READS: u64 = 1 << 60;
 
-// What came of some bytes: the state, how many records were answered, and why no more.
+// The machine on its page, and the room for the records of one read.
 #[derive(Drop)]
-struct Performed {
+struct Editor {
     state: State,
-    records: usize,
-    stop: u64,
-}
-
-// How many bytes a read brought, and whether it failed behind them.
-#[derive(Drop)]
-struct Came {
-    bytes: usize,
-    ended: io::Result<()>,
-}
-
-// The state after a turn, and whether another follows.
-#[derive(Drop)]
-struct Turned {
-    state: State,
-    again: bool,
+    page: [u64; PAGE_WORDS],
+    bits: [u64; BITMAP_WORDS],
+    bytes: [u8; BYTES],
+    events: [u64; EVENTS],
+    answers: [u64; ANSWERS],
+    out: [u8; TEXT],
 }
 
 fn main(rt: HostRuntime) -> Result<()> {
-    let mut page = [0u64; PAGE_WORDS];
-    let mut bits = [0u64; BITMAP_WORDS];
-    let mut bytes = [0u8; BYTES];
-    let mut events = [0u64; EVENTS];
-    let mut answers = [0u64; ANSWERS];
-    let mut out = [0u8; TEXT];
-    let start = machine::fresh::fresh(BLOCKS, BLOCK_WORDS, WORKERS, &page, &mut bits);
-    run(
-        start.state,
-        &mut page,
-        &mut bits,
-        &mut bytes,
-        &mut events,
-        &mut answers,
-        &mut out,
-        &mut rt.stdin(),
-        &mut rt.stdout(),
-    )
+    let mut editor = Editor::new();
+    editor.run(&mut rt.stdin(), &mut rt.stdout())
 }
 
-// Reads, answers and writes until the input ends, `bad` was written, or a read or a write failed.
-fn run<R: Read, W: Write>(
-    state: State,
-    page: &mut [u64],
-    bits: &mut [u64],
-    bytes: &mut [u8],
-    events: &mut [u64],
-    answers: &mut [u64],
-    out: &mut [u8],
-    input: &mut R,
-    output: &mut W,
-) -> Result<()>
-    requires { Room bytes.old answers.old out.old }
-{
-    let mut s = state;
-    for _ in 0..READS {
-        let t = turn(
-            s,
-            &mut *page,
-            &mut *bits,
-            &mut *bytes,
-            &mut *events,
-            &mut *answers,
-            &mut *out,
-            &mut *input,
-            &mut *output,
-        )?;
-        if !t.again {
-            break;
+impl Editor {
+    // A fresh page.
+    fn new() -> Editor {
+        let page = [0u64; PAGE_WORDS];
+        let mut bits = [0u64; BITMAP_WORDS];
+        let start = machine::fresh::fresh(BLOCKS, BLOCK_WORDS, WORKERS, &page, &mut bits);
+        let state = start.state;
+        Editor {
+            state,
+            page,
+            bits,
+            bytes: [0; BYTES],
+            events: [0; EVENTS],
+            answers: [0; ANSWERS],
+            out: [0; TEXT],
         }
-        s = t.state;
     }
-    Ok(())
-}
 
-// Reads once, answers the records that came, and writes the answers. A read that fails ends the turn once what came before
-// is answered, as the input's end would.
-fn turn<R: Read, W: Write>(
-    state: State,
-    page: &mut [u64],
-    bits: &mut [u64],
-    bytes: &mut [u8],
-    events: &mut [u64],
-    answers: &mut [u64],
-    out: &mut [u8],
-    input: &mut R,
-    output: &mut W,
-) -> Result<Turned>
-    requires { Room bytes.old answers.old out.old }
-{
-    let came = read_full(input, &mut *bytes);
-    let got = came.bytes;
-    let r = perform(state, page, bits, &bytes[..got], events, &mut *answers);
-    let whole = r.stop == records::ENDED;
-    let end = text::chunk(answers, r.records, whole, &mut *out);
-    let done = put(output, &out[..end]);
-    let again = goes_on(done.is_ok(), whole, got, bytes.len());
-    done?;
-    came.ended.context("the records cannot be read")?;
-    let next = r.state;
-    Ok(Turned { state: next, again })
-}
-
-// Reads until the room is full, the input ends or a read fails.
-fn read_full<R: Read>(input: &mut R, bytes: &mut [u8]) -> Came
-    ensures { result.bytes ≤ length bytes.new }
-{
-    let mut done = 0;
-    while done < bytes.len() {
-        match input.read(&mut bytes[done..]) {
-            Ok(0) => break,
-            Ok(n) => done += n,
-            Err(e) => {
-                return Came {
-                    bytes: done,
-                    ended: Err(e),
-                };
+    // Reads, answers and writes until the input ends, `bad` was written, or a read or a write failed.
+    fn run<R: Read, W: Write>(&mut self, input: &mut R, output: &mut W) -> Result<()> {
+        for _ in 0..READS {
+            if !self.turn(&mut *input, &mut *output)? {
+                break;
             }
         }
+        Ok(())
     }
-    Came {
-        bytes: done,
-        ended: Ok(()),
+
+    // Reads once, answers the records that came, writes the answers, and says whether more is to be read. A read that fails
+    // ends the turn once what came before is answered, as the input's end would.
+    fn turn<R: Read, W: Write>(&mut self, input: &mut R, output: &mut W) -> Result<bool> {
+        let mut got = 0;
+        let ended = read_full(input, &mut self.bytes, &mut got);
+        let filled = self.perform(got);
+        let whole = filled.stop == Stop::Ended;
+        let end = text::chunk(&self.answers, filled.records, whole, &mut self.out);
+        put(output, &self.out[..end])?;
+        ended.context("the records cannot be read")?;
+        Ok(goes_on(whole, got, self.bytes.len()))
     }
+
+    // Decodes the records of the first bytes and lets their events happen, with each one's answer in its place.
+    fn perform(&mut self, got: usize) -> Filled
+        requires { got ≤ length self.old.bytes }
+        ensures answers_after { performed result.records (Some result.stop) (config self.new.state self.new.page self.new.bits) self.new.answers ≡ perform_of (config self.old.state self.old.page self.old.bits) (take got self.old.bytes) self.old.events self.old.answers }
+        ensures records_in_bounds { 8 * result.records ≤ got }
+    {
+        let filled = records::fill(&self.bytes[..got], &mut self.events);
+        let words = EVENT_WORDS * filled.records;
+        let r = events::events(
+            self.state,
+            &mut self.page,
+            &mut self.bits,
+            &self.events[..words],
+            &mut self.answers,
+        );
+        self.state = r.state;
+        filled
+    }
+}
+
+// Reads until the room is full, the input ends or a read fails, and counts the bytes that came.
+fn read_full<R: Read>(input: &mut R, bytes: &mut [u8], got: &mut usize) -> io::Result<()>
+    requires { got.old ≤ length bytes.old }
+    ensures { got.new ≤ length bytes.new }
+{
+    while *got < bytes.len() {
+        match input.read(&mut bytes[*got..])? {
+            0 => break,
+            n => *got += n,
+        }
+    }
+    Ok(())
 }
 
 // Writes text.
@@ -179,33 +143,9 @@ fn put<W: Write>(output: &mut W, text: &[u8]) -> Result<()>
         .context("the answers cannot be written")
 }
 
-// Whether more is to be read: the text was written, all bytes were records, and they filled their room.
-fn goes_on(written: bool, whole: bool, got: usize, room: usize) -> bool
-    ensures { result ≡ ((written && whole) && eqb got room) }
+// Whether more is to be read: all bytes were records, and they filled their room.
+fn goes_on(whole: bool, got: usize, room: usize) -> bool
+    ensures { result ≡ (whole && eqb got room) }
 {
-    written && whole && got == room
-}
-
-// Decodes the records of some bytes and lets their events happen, with each one's answer in its place.
-fn perform(
-    state: State,
-    page: &mut [u64],
-    bits: &mut [u64],
-    bytes: &[u8],
-    events: &mut [u64],
-    answers: &mut [u64],
-) -> Performed
-    ensures answers_after { performed result.records result.stop (config result.state page.new bits.new) answers.new ≡ perform_of (config state page.old bits.old) bytes.now events.old answers.old }
-    ensures records_in_bounds { 8 * result.records ≤ length bytes.now }
-{
-    let filled = records::fill(bytes, &mut *events);
-    let count = filled.records as usize;
-    let words = EVENT_WORDS * count;
-    let r = events::events(state, page, bits, &events[..words], answers);
-    let next = r.state;
-    Performed {
-        state: next,
-        records: count,
-        stop: filled.stop,
-    }
+    whole && got == room
 }

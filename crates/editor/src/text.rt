@@ -16,11 +16,7 @@ fn put(text: &[u8], out: &mut [u8], at: usize)
     requires { at + length text.now ≤ length out.old }
     ensures { Wrote out.old at text.now out.new (at + length text.now) }
 {
-    let mut i = 0;
-    while i < text.len() {
-        out[at + i] = text[i];
-        i += 1;
-    }
+    out[at..at + text.len()].copy_from_slice(text);
 }
 
 // Writes a number's decimal digits from a place on, and answers the place behind them.
@@ -55,10 +51,8 @@ fn lines(answers: &[u64], count: usize, out: &mut [u8]) -> usize
     ensures upper_bound { result ≤ 42 * count }
 {
     let mut at = 0;
-    let mut k = 0;
-    while k < count {
+    for k in 0..count {
         at = line(answers[2 * k], answers[2 * k + 1], &mut *out, at);
-        k += 1;
     }
     at
 }

@@ -2,8 +2,8 @@
 use Rattle.std.proofs.Common.{◌≡◌, ◌-◌, ◌≤◌, length}
 use Rattle.editor.proofs.read_full.Given as goal
 
-abbrev pub invariant-loop-done : goal.invariant-loop-done
-invariant-loop-done g l = (length l.bytes ≡ length l.fn.bytes) × (l.done ≤ length l.bytes)
+abbrev pub invariant-loop-got : goal.invariant-loop-got
+invariant-loop-got g l = (length l.bytes ≡ length l.fn.bytes) × (l.got ≤ length l.bytes)
 
-abbrev pub decreases-loop-done : goal.decreases-loop-done
-decreases-loop-done g l = length l.initial.bytes - l.done
+abbrev pub decreases-loop-got : goal.decreases-loop-got
+decreases-loop-got g l = length l.initial.bytes - l.got

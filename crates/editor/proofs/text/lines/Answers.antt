@@ -4,9 +4,9 @@ use Rattle.editor.proofs.Writing.{wrote-no-line, wrote-line}
 use Rattle.editor.proofs.text.lines.Goals as goal
 
 pub loop-k-init : goal.loop-k-init
-loop-k-init c = (omega arith, omega arith, wrote-no-line c.args.out.now c.args.answers.now)
+loop-k-init c = (omega arith, wrote-no-line c.args.out.now c.args.answers.now)
 
 pub loop-k-preserved : goal.loop-k-preserved
 loop-k-preserved c =
     let w = c.line-at.ensures in
-    (omega arith, omega (arith, w.upper_bound), wrote-line c.args.answers.now c.loop-k.k c.loop-k.invariant.2 w.wrote)
+    (omega (arith, w.upper_bound), wrote-line c.args.answers.now c.loop-k.k c.loop-k.invariant.1 w.wrote)

@@ -1,0 +1,14 @@
+-- The words of the records that were decoded, and then what their run came to.
+use Rattle.std.proofs.Common.{arith, length-take-le}
+use Rattle.editor.proofs.Performing.{filled-holds, filled-room}
+use Rattle.editor.proofs.Editor.perform.Goals as goal
+
+pub overflow_mul-words : goal.overflow_mul-words
+overflow_mul-words c = omega (arith, filled-room _ _ c.fill-filled.ensures)
+
+pub shared_ref_as_front-events : goal.shared_ref_as_front-events
+shared_ref_as_front-events c = omega (arith, filled-room _ _ c.fill-filled.ensures)
+
+pub returns-clause-records_in_bounds : goal.returns-clause-records_in_bounds
+returns-clause-records_in_bounds c =
+    omega (arith, (filled-holds _ _ c.fill-filled.ensures).used, length-take-le c.args.got c.args.self.now.bytes c.requires)
