@@ -1,10 +1,9 @@
 -- Decoding, a fresh start and a run, one after the other. Assumes nothing.
-use Prim.Native.Nat.{ℕ, ◌*◌, ◌≤◌, ◌<◌}
+use Prim.Native.Nat.{ℕ, ◌*◌, ◌≤◌}
 use mathlib.Core.Path.{◌≡◌, sym, ap, ◌∙◌, subst}
 use mathlib.Core.List.{List}
 use native.Mathlib.Omega.{arith}
-use lib.ListN.{length, take, get_or, replicate, length-take}
-use lib.Seq.{get_or-take}
+use lib.ListN.{length, take, replicate}
 use Rattle.answers.specs.Rows.{Outcome}
 use Rattle.records.specs.declared.Filled.{Filled}
 use Rattle.records.specs.Fill.{fill_of}
@@ -31,11 +30,3 @@ run_is bytes page bits answers {r} {words} e f g =
     g
     ∙ ap (λ (c : Outcome Config). events_of (ran c.after answers) (take (event_words * r.records) words)) f
     ∙ ap (from_fresh page bits answers) e
-
--- words that are too few do not begin with the others
-pub too_few : (words expected : List ℕ) → length words < length expected → take (length expected) words ≡ expected → ⊥
-too_few words expected h e = omega (arith, length-take (length expected) words, ap length e)
-
--- where they begin with the others, each one is the other's
-pub differs : (words expected : List ℕ) (i : ℕ) → i < length expected → take (length expected) words ≡ expected → get_or words i 0 ≡ get_or expected i 0
-differs words expected i h e = sym (get_or-take (length expected) words i 0 h) ∙ ap (λ (l : List ℕ). get_or l i 0) e

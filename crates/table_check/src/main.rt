@@ -1,6 +1,6 @@
 // Document 01's table, P1 to P12, and its whole case, run through the compiled library and proved. A record is a mark (SU a
 // request, MV a move, EN on), worker, code, a and b; an expected answer is a number and a value.
-#![tactic(auto)]
+#![tactic(auto, using(crate::proofs::Vectors::vectors))]
 
 mod runs;
 
@@ -35,10 +35,9 @@ fn p2() {
 }
 
 // Tag 1 on 98 gives 97.
+#[tactic(auto, unfolding(words::specs::Tagged::set_delay_of))]
 fn p3() {
-    let tagged = words::masked_ptr_delay_set_delay(98, 1);
-    expect(tagged.number == 0);
-    expect(tagged.value == 97);
+    expect(words::masked_ptr_delay_set_delay(98, 1) == Ok(97));
 }
 
 // Own 6, 5 and got 9, 8: append answers 2, and own is popped as 9, 8, 6, 5.

@@ -1,10 +1,9 @@
 // Runs of records on a fresh page, and what can be asked of them.
 ghost use Rattle.std.specs.Prelude.{◌≡◌, true, ◌<◌, length, get_or, take};
-ghost use Rattle.machine.specs.Events.{came_run};
-ghost use Rattle.table_check.specs.Runs.{run_of, zeros_run, Answers};
+ghost use Rattle.table_check.specs.Runs.{left, zeros_run, Answers};
 
 use events::EVENT_WORDS;
-use machine::Reply;
+use machine::State;
 
 // The page of document 01's table: n, bw, W, and the words of page and bitmap.
 const BLOCKS: u64 = 63;
@@ -22,58 +21,61 @@ const EVENTS: usize = 160;
 
 const ANSWERS: usize = 64;
 
+// What a run leaves: its answer, the state, the page and the bitmap, and the answers of its events.
+#[derive(Drop)]
+pub struct Ran {
+    pub number: u64,
+    pub value: u64,
+    pub state: State,
+    pub page: [u64; PAGE_WORDS],
+    pub bits: [u64; BITMAP_WORDS],
+    pub answers: [u64; ANSWERS],
+}
+
 // Runs the records from a fresh start.
-fn run(records: &[u8], page: &mut [u64], bits: &mut [u64], answers: &mut [u64]) -> Reply
-    ensures { came_run result page.new bits.new answers.new ≡ run_of records.now page.old bits.old answers.old }
+fn run(records: &[u8]) -> Ran
+    ensures { left result ≡ zeros_run records.now }
 {
+    let mut page = [0u64; PAGE_WORDS];
+    let mut bits = [0u64; BITMAP_WORDS];
     let mut words = [0u64; EVENTS];
+    let mut answers = [0u64; ANSWERS];
     let filled = records::fill(records, &mut words);
-    let used = EVENT_WORDS * (filled.records as usize);
-    let start = machine::fresh::fresh(BLOCKS, BLOCK_WORDS, WORKERS, page, &mut *bits);
+    let used = EVENT_WORDS * filled.records;
+    let start = machine::fresh::fresh(BLOCKS, BLOCK_WORDS, WORKERS, &page, &mut bits);
     let state = start.state;
-    events::events(state, page, bits, &words[..used], answers)
+    let r = events::events(state, &mut page, &mut bits, &words[..used], &mut answers);
+    let next = r.state;
+    Ran {
+        number: r.number,
+        value: r.value,
+        state: next,
+        page,
+        bits,
+        answers,
+    }
 }
 
 // Whether words begin with these bytes.
 fn begins(words: &[u64], expected: &[u8]) -> bool
     ensures { take (length expected.now) words.now ≡ expected.now → result ≡ true }
 {
-    if words.len() < expected.len() {
-        return false;
-    }
-    let mut i = 0;
-    while i < expected.len() {
-        if words[i] != expected[i] as u64 {
-            return false;
-        }
-        i += 1;
-    }
-    true
+    expected.len() <= words.len() && expected.iter().zip(words).all(|(x, y)| u64::from(*x) == *y)
 }
 
 // Whether these are the answers of a run, number and value of each.
 pub fn answers(records: &[u8], expected: &[u8]) -> bool
     ensures { Answers records.now expected.now → result ≡ true }
 {
-    let mut page = [0u64; PAGE_WORDS];
-    let mut bits = [0u64; BITMAP_WORDS];
-    let mut answers = [0u64; ANSWERS];
-    let r = run(records, &mut page, &mut bits, &mut answers);
-    if r.value != (expected.len() / 2) as u64 {
-        return false;
-    }
-    begins(&answers, expected)
+    let ran = run(records);
+    ran.value == (expected.len() / 2) as u64 && begins(&ran.answers, expected)
 }
 
 // The tagged word after a run.
 pub fn tagged(records: &[u8]) -> u64
     ensures { result ≡ (zeros_run records.now).after.config.state.tagged }
 {
-    let mut page = [0u64; PAGE_WORDS];
-    let mut bits = [0u64; BITMAP_WORDS];
-    let mut answers = [0u64; ANSWERS];
-    let r = run(records, &mut page, &mut bits, &mut answers);
-    r.state.tagged
+    run(records).state.tagged
 }
 
 // A word of the page after a run.
@@ -81,9 +83,5 @@ pub fn word(records: &[u8], at: usize) -> u64
     requires { at < 256 }
     ensures { result ≡ get_or (zeros_run records.now).after.config.page at 0 }
 {
-    let mut page = [0u64; PAGE_WORDS];
-    let mut bits = [0u64; BITMAP_WORDS];
-    let mut answers = [0u64; ANSWERS];
-    run(records, &mut page, &mut bits, &mut answers);
-    page[at]
+    run(records).page[at]
 }
