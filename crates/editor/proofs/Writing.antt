@@ -1,9 +1,8 @@
 -- Texts put one behind the other. Assumes nothing.
 use Prim.Native.Nat.{ℕ, ◌+◌, ◌*◌, ◌≤◌}
-use mathlib.Core.Path.{◌≡◌, refl, sym, ap, ◌∙◌, subst}
+use mathlib.Core.Path.{refl, sym, ap, ◌∙◌}
 use mathlib.Core.List.{List, [], ◌++◌, append-nil, append_assoc}
 use native.Mathlib.Numerals.{add-one}
-use native.Mathlib.Omega.{arith}
 use lib.ListN.{length, take, get_or}
 use Rattle.editor.specs.Text.{Wrote, line_text, lines_text}
 
@@ -21,20 +20,15 @@ wrote_then {before} {text} {after} {more} {last} {at} {end} {past} v w =
       within = w.within;
     }
 
--- the text by another name, and its length
-pub wrote-number : {before text after same : List ℕ} {at k : ℕ} → Wrote before at text after (at + length text) → length text ≡ k → text ≡ same
-    → Wrote before at same after (at + k)
-wrote-number {before} {text} {after} {same} {at} {k} w e f = rw e at (subst (λ (t : List ℕ). Wrote before at t after (at + length text)) f w)
-
 -- ---- lines
 
 -- the line of answer k behind those before it
-pub wrote-line : {before after last : List ℕ} {end past : ℕ} (answers : List ℕ) (k : ℕ) → Wrote before 0 (lines_text answers k) after end
-    → Wrote after end (line_text (get_or answers (2 * k) 0) (get_or answers (2 * k + 1) 0)) last past → Wrote before 0 (lines_text answers (k + 1)) last past
+pub wrote-line : {before after last : List ℕ} {at end past : ℕ} (answers : List ℕ) (k : ℕ) → Wrote before at (lines_text answers k) after end
+    → Wrote after end (line_text (get_or answers (2 * k) 0) (get_or answers (2 * k + 1) 0)) last past → Wrote before at (lines_text answers (k + 1)) last past
 unfolding lines_text
 wrote-line answers k v w = rw (add-one k) (wrote_then v w)
 
 -- before the first one
-pub wrote-no-line : (before answers : List ℕ) → Wrote before 0 (lines_text answers 0) before 0
+pub wrote-no-line : (before : List ℕ) (at : ℕ) (answers : List ℕ) → at ≤ length before → Wrote before at (lines_text answers 0) before at
 unfolding lines_text
-wrote-no-line before answers = wrote_none before 0 (omega arith)
+wrote-no-line before at answers h = wrote_none before at h

@@ -15,6 +15,7 @@ use machine::State;
 use records::{Filled, Stop};
 use std::io;
 use std::io::{Read, Write};
+use text::Text;
 
 // The page: n blocks of bw words, W workers.
 const BLOCKS: u64 = 63;
@@ -28,7 +29,7 @@ const PAGE_WORDS: usize = 256;
 
 const BITMAP_WORDS: usize = 1;
 
-// The records of one read, and the room that they need: bytes, words of events, words of answers, bytes of text.
+// The records of one read, and the room that they need: bytes, words of events, words of answers.
 const RECORDS: usize = 1024;
 
 const BYTES: usize = 8 * RECORDS;
@@ -36,8 +37,6 @@ const BYTES: usize = 8 * RECORDS;
 const EVENTS: usize = EVENT_WORDS * RECORDS;
 
 const ANSWERS: usize = ANSWER_WORDS * RECORDS;
-
-const TEXT: usize = text::LINE * RECORDS + text::BAD;
 
 // A proved loop has to end, and nothing says that the input does: it is read at most so often, more than any run does.
 const READS: u64 = 1 << 60;
@@ -51,7 +50,7 @@ struct Editor {
     bytes: [u8; BYTES],
     events: [u64; EVENTS],
     answers: [u64; ANSWERS],
-    out: [u8; TEXT],
+    text: Text,
 }
 
 fn main(rt: HostRuntime) -> Result<()> {
@@ -73,7 +72,7 @@ impl Editor {
             bytes: [0; BYTES],
             events: [0; EVENTS],
             answers: [0; ANSWERS],
-            out: [0; TEXT],
+            text: Text::new(),
         }
     }
 
@@ -94,8 +93,8 @@ impl Editor {
         let ended = read_full(input, &mut self.bytes, &mut got);
         let filled = self.perform(got);
         let whole = filled.stop == Stop::Ended;
-        let end = text::chunk(&self.answers, filled.records, whole, &mut self.out);
-        put(output, &self.out[..end])?;
+        self.text.chunk(&self.answers, filled.records, whole);
+        put(output, self.text.bytes())?;
         ended.context("the records cannot be read")?;
         Ok(goes_on(whole, got, self.bytes.len()))
     }
