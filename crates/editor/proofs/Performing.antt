@@ -2,7 +2,7 @@
 use Prim.Native.Nat.{ℕ, ◌*◌, ◌≤◌}
 use mathlib.Core.Path.{◌≡◌, refl, sym, ap, ◌∙◌, subst}
 use mathlib.Core.List.{List}
-use Rattle.std.proofs.Common.{Some}
+use Rattle.std.proofs.Common.{Some, Result}
 use native.Mathlib.Omega.{arith}
 use lib.ListN.{length, take}
 use Rattle.answers.specs.Rows.{Outcome}
@@ -10,7 +10,8 @@ use Rattle.records.specs.declared.Filled.{Filled}
 use Rattle.records.specs.Fill.{came, fill_of}
 use Rattle.records.specs.Filled.{FillHolds}
 use Rattle.records.proofs.Filling.{fill_holds}
-use Rattle.machine.specs.declared.Reply.{Reply}
+use Rattle.answers.specs.declared.Refusal.{Refusal}
+use Rattle.machine.specs.declared.State.{State}
 use Rattle.machine.specs.Config.{Config, config}
 use Rattle.machine.specs.Events.{event_words, Run, ran, came_run, events_of}
 use Rattle.editor.specs.Chunk.{KindsAgree, performed, run_of, perform_of}
@@ -26,7 +27,7 @@ pub filled-room : (bytes events : List ℕ) {r : Filled} {words : List ℕ} → 
 filled-room bytes events e = let h = filled-holds bytes events e in omega (arith, h.room, h.size)
 
 pub perform-is : (c : Config) (bytes events answers : List ℕ) {r : Filled} {words : List ℕ} → came r words ≡ fill_of bytes events
-    → {p : Reply} {page bits after : List ℕ} → came_run p page bits after ≡ events_of (ran c answers) (take (event_words * r.records) words)
-    → performed r.records (Some r.stop) (config p.state page bits) after ≡ perform_of c bytes events answers
+    → {p : Result ℕ Refusal} {s : State} {page bits after : List ℕ} → came_run p s page bits after ≡ events_of (ran c answers) (take (event_words * r.records) words)
+    → performed r.records (Some r.stop) (config s page bits) after ≡ perform_of c bytes events answers
 perform-is c bytes events answers {r} e f =
     ap (λ (o : Outcome Run). performed r.records (Some r.stop) o.after.config o.after.answers) f ∙ ap (run_of c answers) e

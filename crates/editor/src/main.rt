@@ -2,9 +2,9 @@
 // unknown mark or a cut record. It reads and writes here; decoding, the machine and the text are calls.
 #![tactic(auto)]
 
-ghost use Rattle.std.specs.Prelude.{◌≡◌, ◌&&◌, ◌*◌, ◌≤◌, Some, eqb, length, take, OnOk};
+ghost use Rattle.std.specs.Prelude.{◌≡◌, ◌&&◌, ◌*◌, ◌≤◌, Some, eqb, length, take, replicate, OnOk};
 ghost use Rattle.std.specs.Io.KnownBytes.{Appends};
-ghost use Rattle.machine.specs.Config.{config};
+ghost use Rattle.machine.specs.Config.{config, fresh_of};
 ghost use Rattle.editor.specs.Chunk.{performed, perform_of};
 
 mod text;
@@ -12,6 +12,8 @@ mod text;
 use anyhow::{Context, Result};
 use events::{ANSWER_WORDS, EVENT_WORDS};
 use machine::State;
+use machine::fresh::fresh;
+use page::Layout;
 use records::{Filled, Stop};
 use std::io;
 use std::io::{Read, Write};
@@ -59,12 +61,17 @@ fn main(rt: HostRuntime) -> Result<()> {
 }
 
 impl Editor {
-    // A fresh page.
-    fn new() -> Editor {
+    // A fresh start, which the page rules allow.
+    fn new() -> Editor
+        ensures { config result.state result.page result.bits ≡ (fresh_of 63 4 8 (replicate 256 0) (replicate 1 0)).after }
+    {
         let page = [0u64; PAGE_WORDS];
         let mut bits = [0u64; BITMAP_WORDS];
-        let start = machine::fresh::fresh(BLOCKS, BLOCK_WORDS, WORKERS, &page, &mut bits);
-        let state = start.state;
+        let layout = Layout {
+            n: BLOCKS,
+            bw: BLOCK_WORDS,
+        };
+        let state = fresh(layout, WORKERS, &page, &mut bits).unwrap();
         Editor {
             state,
             page,
@@ -107,14 +114,13 @@ impl Editor {
     {
         let filled = records::fill(&self.bytes[..got], &mut self.events);
         let words = EVENT_WORDS * filled.records;
-        let r = events::events(
-            self.state,
+        let _ = events::events(
+            &mut self.state,
             &mut self.page,
             &mut self.bits,
             &self.events[..words],
             &mut self.answers,
         );
-        self.state = r.state;
         filled
     }
 }

@@ -86,10 +86,10 @@ fn counts() {
 // Full words are stepped over; past the end the first block is unlisted.
 fn firsts() {
     let bits = [!0u64, !0, 3];
-    expect(first_unlisted(&bits, 200) == 130);
-    expect(first_unlisted(&bits, 129) == 0);
-    expect(first_unlisted(&bits[..2], 128) == 128);
-    expect(first_unlisted(&bits[..0], 9) == 1);
+    expect(first_unlisted(&bits, 200) == Some(130));
+    expect(first_unlisted(&bits, 129) == None);
+    expect(first_unlisted(&bits[..2], 128) == Some(128));
+    expect(first_unlisted(&bits[..0], 9) == Some(1));
 }
 
 // A run is set and seen, ends where it ends, and stops at the slice's end.

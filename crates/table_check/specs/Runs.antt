@@ -20,7 +20,7 @@ zeros_run run = run_of run (replicate 256 0) (replicate 1 0) (replicate 64 0)
 
 -- what a run left
 abbrev pub left : Ran → Outcome Run
-left r = outcome r.number r.value (ran (config r.state r.page r.bits) r.answers)
+left r = outcome r.answer.number r.answer.value (ran (config r.state r.page r.bits) r.answers)
 
 -- these are its answers, two words each, and no more
 pub record Answers (run expected : List ℕ) : Type 0 where

@@ -5,6 +5,7 @@
 mod runs;
 
 use check::expect;
+use page::Layout;
 use runs::{answers, tagged, word};
 
 fn main() {
@@ -25,7 +26,8 @@ fn main() {
 
 // Block 3 has address 96.
 fn p1() {
-    expect(page::address(4, 3) == 96);
+    let layout = Layout { n: 63, bw: 4 };
+    expect(layout.address(3) == 96);
 }
 
 // Word 99 splits into 96 and 3.

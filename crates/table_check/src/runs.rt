@@ -2,8 +2,11 @@
 ghost use Rattle.std.specs.Prelude.{◌≡◌, true, ◌<◌, length, get_or, take};
 ghost use Rattle.table_check.specs.Runs.{left, zeros_run, Answers};
 
+use answers::Answer;
 use events::EVENT_WORDS;
 use machine::State;
+use machine::fresh::fresh;
+use page::Layout;
 
 // The page of document 01's table: n, bw, W, and the words of page and bitmap.
 const BLOCKS: u64 = 63;
@@ -24,8 +27,7 @@ const ANSWERS: usize = 64;
 // What a run leaves: its answer, the state, the page and the bitmap, and the answers of its events.
 #[derive(Drop)]
 pub struct Ran {
-    pub number: u64,
-    pub value: u64,
+    pub answer: Answer,
     pub state: State,
     pub page: [u64; PAGE_WORDS],
     pub bits: [u64; BITMAP_WORDS],
@@ -42,14 +44,15 @@ fn run(records: &[u8]) -> Ran
     let mut answers = [0u64; ANSWERS];
     let filled = records::fill(records, &mut words);
     let used = EVENT_WORDS * filled.records;
-    let start = machine::fresh::fresh(BLOCKS, BLOCK_WORDS, WORKERS, &page, &mut bits);
-    let state = start.state;
-    let r = events::events(state, &mut page, &mut bits, &words[..used], &mut answers);
-    let next = r.state;
+    let layout = Layout {
+        n: BLOCKS,
+        bw: BLOCK_WORDS,
+    };
+    let mut state = fresh(layout, WORKERS, &page, &mut bits).unwrap();
+    let came = events::events(&mut state, &mut page, &mut bits, &words[..used], &mut answers);
     Ran {
-        number: r.number,
-        value: r.value,
-        state: next,
+        answer: Answer::from(came),
+        state,
         page,
         bits,
         answers,
@@ -68,7 +71,7 @@ pub fn answers(records: &[u8], expected: &[u8]) -> bool
     ensures { Answers records.now expected.now → result ≡ true }
 {
     let ran = run(records);
-    ran.value == (expected.len() / 2) as u64 && begins(&ran.answers, expected)
+    ran.answer.value == (expected.len() / 2) as u64 && begins(&ran.answers, expected)
 }
 
 // The tagged word after a run.
