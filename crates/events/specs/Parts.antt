@@ -1,14 +1,9 @@
--- An event of the slice, as the code reads it.
-use Rattle.std.specs.Prelude.{ℕ, ◌+◌, ◌*◌, List, get_or}
+-- The words of an event in the slice.
+use Rattle.std.specs.Prelude.{ℕ, ◌+◌, ◌*◌, List, [], ◌∷◌, get_or}
 use Rattle.machine.specs.Events.{event_words}
-use Rattle.events.specs.declared.happen.Event.{Event}
 
--- event number k of the slice
-abbrev pub event_in : List ℕ → ℕ → Event
-event_in events k = record {
-  kind = get_or events (k * event_words) 0;
-  worker = get_or events (k * event_words + 1) 0;
-  code = get_or events (k * event_words + 2) 0;
-  a = get_or events (k * event_words + 3) 0;
-  b = get_or events (k * event_words + 4) 0;
-}
+-- the five words of event number k
+abbrev pub words_at : List ℕ → ℕ → List ℕ
+words_at events k =
+    get_or events (k * event_words) 0 ∷ get_or events (k * event_words + 1) 0 ∷ get_or events (k * event_words + 2) 0
+    ∷ get_or events (k * event_words + 3) 0 ∷ get_or events (k * event_words + 4) 0 ∷ []

@@ -4,16 +4,14 @@
 ghost use Rattle.std.specs.Prelude.{◌≡◌, ◌+◌, ◌*◌, ◌/◌, ◌<◌, ◌≤◌, length, set};
 ghost use Rattle.machine.specs.Config.{config};
 ghost use Rattle.machine.specs.Events.{event_words, answer_words, ran, came_run, run_of, events_of};
-ghost use Rattle.events.specs.Parts.{event_in};
+ghost use Rattle.events.specs.Parts.{words_at};
 
-use crate::happen::{Event, happen};
+use crate::happen::happen;
 use answers::{Answer, Refusal};
 use machine::State;
+use records::EVENT_WORDS;
 
 pub mod happen;
-
-// Words of an event: kind, worker, code, a, b.
-pub const EVENT_WORDS: usize = 5;
 
 // Words of an answer: number, value.
 pub const ANSWER_WORDS: usize = 2;
@@ -27,19 +25,19 @@ fn put(answers: &mut [u64], k: usize, answer: Answer)
     answers[k * ANSWER_WORDS + 1] = answer.value;
 }
 
-// Reads event k.
-fn read(events: &[u64], k: usize) -> Event
+// The words of event k.
+fn read(events: &[u64], k: usize) -> [u64; EVENT_WORDS]
     requires { k * event_words + 4 < length events.now }
-    ensures { result ≡ event_in events.now k }
+    ensures { result ≡ words_at events.now k }
 {
     let at = k * EVENT_WORDS;
-    Event {
-        kind: events[at],
-        worker: events[at + 1],
-        code: events[at + 2],
-        a: events[at + 3],
-        b: events[at + 4],
-    }
+    [
+        events[at],
+        events[at + 1],
+        events[at + 2],
+        events[at + 3],
+        events[at + 4],
+    ]
 }
 
 // Lets the first events happen in turn, and writes the answer of each.

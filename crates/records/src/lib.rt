@@ -1,14 +1,16 @@
-// Records of 8 bytes to events: a two-byte mark, worker, code, then a and b as two bytes each, low first. No public
-// function has a requires: any bytes, at any place, and any room for the events.
+// An event and its two spellings: a record of 8 bytes, which is a two-byte mark, worker, code, then a and b as two bytes
+// each, low first; and five words. No public function has a requires: any bytes, at any place, and any words.
 #![tactic(auto)]
 
 ghost use Rattle.std.specs.Prelude.{◌≡◌, ◌+◌, ◌*◌, ◌≤◌, length};
 ghost use Rattle.records.specs.Records.{kind_number, two_bytes, known, marked_by, words_of, read, decode_at};
+ghost use Rattle.records.specs.Words.{heard, spelled_by};
 ghost use Rattle.records.specs.Fill.{going, put_event, turned, filling, next, came, fill_of};
 
+use answers::Refusal;
 use std::convert::{From, TryFrom};
 
-// What a record's mark stands for, with the number that an event's first word has.
+// The kinds of an event, with the number that its first word has.
 #[derive(Clone, Copy, Debug, PartialEq, Eq)]
 pub enum Kind {
     Request = 1,
@@ -17,7 +19,7 @@ pub enum Kind {
     Off = 4,
 }
 
-// What a record asks for. A move's flag is its code: nonzero is set.
+// What is asked for. A move's flag is its code: nonzero is set.
 #[derive(Clone, Copy, Debug, PartialEq, Eq)]
 pub struct Event {
     pub kind: Kind,
@@ -50,7 +52,7 @@ pub struct Filled {
 // The bytes of a record, and the words of an event.
 const RECORD_BYTES: usize = 8;
 
-const EVENT_WORDS: usize = 5;
+pub const EVENT_WORDS: usize = 5;
 
 impl From<Kind> for u64 {
     ghost from_gives = { λ kind n. n ≡ kind_number kind };
@@ -74,6 +76,31 @@ impl TryFrom<[u8; 2]> for Kind {
             b"DI" => Ok(Kind::Off),
             _ => Err(Stop::Unknown),
         }
+    }
+}
+
+// An unknown kind is refused with 4.
+impl TryFrom<[u64; EVENT_WORDS]> for Event {
+    type Error = Refusal;
+
+    ghost try_from_gives = { λ words r. heard r ≡ spelled_by words };
+
+    fn try_from(words: [u64; EVENT_WORDS]) -> Result<Event, Refusal> {
+        let [number, worker, code, a, b] = words;
+        let kind = match number {
+            1 => Kind::Request,
+            2 => Kind::Move,
+            3 => Kind::On,
+            4 => Kind::Off,
+            _ => return Err(Refusal::NoSuch),
+        };
+        Ok(Event {
+            kind,
+            worker,
+            code,
+            a,
+            b,
+        })
     }
 }
 
