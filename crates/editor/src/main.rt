@@ -10,11 +10,11 @@ ghost use Rattle.editor.specs.Chunk.{performed, perform_of};
 mod text;
 
 use anyhow::{Context, Result};
-use events::{ANSWER_WORDS, EVENT_WORDS};
+use events::ANSWER_WORDS;
 use machine::State;
 use machine::fresh::fresh;
 use page::Layout;
-use records::{Filled, Stop};
+use records::{EVENT_WORDS, Filled, Stop};
 use std::io;
 use std::io::{Read, Write};
 use text::Text;

@@ -3,10 +3,10 @@ ghost use Rattle.std.specs.Prelude.{◌≡◌, true, ◌<◌, length, get_or, ta
 ghost use Rattle.table_check.specs.Runs.{left, zeros_run, Answers};
 
 use answers::Answer;
-use events::EVENT_WORDS;
 use machine::State;
 use machine::fresh::fresh;
 use page::Layout;
+use records::EVENT_WORDS;
 
 // The page of document 01's table: n, bw, W, and the words of page and bitmap.
 const BLOCKS: u64 = 63;
