@@ -15,7 +15,6 @@ use Rattle.answers.specs.Rows.{row, first, Outcome, outcome, unless}
 use Rattle.answers.proofs.Rows.{unless-either, and_left}
 use Rattle.page.specs.Sequences.{one}
 use Rattle.operations.specs.Operations.{push_shared, await_tag, staged_b}
-use Rattle.staged.specs.Start.{start_act}
 use Rattle.staged.specs.Moves.{move_act}
 use Rattle.machine.specs.Config.{Config, worker_of, turn_of, put_turn, over}
 use Rattle.machine.specs.Table.{insert, pop, append, extend, release, table, request_refusal, move_refusal, on_refusal, off_refusal}

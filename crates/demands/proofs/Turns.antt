@@ -15,7 +15,7 @@ use Rattle.page.proofs.Counting.{hit-is, hit_same}
 use Rattle.page.proofs.Running.{others-run}
 use Rattle.operations.specs.declared.Worker.{Worker}
 use Rattle.machine.specs.Config.{Config, config, state_of, lent_of, worker_of, put_worker}
-use Rattle.demands.specs.Simple.{Simple, simple, Hands, hands, still, hands_of, held_by}
+use Rattle.demands.specs.Simple.{Simple, simple, Hands, still, hands_of, held_by}
 use Rattle.demands.specs.Relation.{Doing, Fits, Sim}
 use Rattle.demands.proofs.Facts.{one_place, held-part, held_two}
 use Rattle.demands.proofs.Change.{rebuild, fits-stays}

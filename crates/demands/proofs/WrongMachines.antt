@@ -9,7 +9,7 @@ use lib.ListN.{length, set, replicate}
 use Rattle.answers.specs.Numbers.{done, under_way, no_such}
 use Rattle.answers.specs.Rows.{all, first, Outcome, outcome, refused, unless}
 use Rattle.words.specs.Digits.{digit, put_digit}
-use Rattle.words.specs.Tagged.{tag_of, address_of, freeing}
+use Rattle.words.specs.Tagged.{tag_of, freeing}
 use Rattle.bitmap.specs.Bitmap.{bit_at, bit_put, any_from, put_run}
 use Rattle.page.specs.Page.{lent, fits_b, workers_b, block_b, run_b, good_b, sound_b, place, block_of}
 use Rattle.page.specs.Page as page

@@ -1,5 +1,4 @@
 pub mod Elements
 pub mod Spelled
 pub mod OneEvent
-pub mod CallArms
 pub mod Worded

@@ -1,20 +1,19 @@
 -- A state and its words: each says the other. Assumes nothing.
-use Prim.Native.Nat.{ℕ, zero, suc, ◌+◌, ◌*◌, ◌≤◌, ◌<◌}
-use mathlib.Core.Path.{◌≡◌, refl, sym, ap, subst, ◌∙◌}
+use Prim.Native.Nat.{ℕ, zero, suc, ◌*◌, ◌≤◌}
+use mathlib.Core.Path.{◌≡◌, refl, sym, ap, subst}
 use mathlib.Core.Bool.{Bool, true, false, not, cond}
 use mathlib.Core.List.{List, [], ◌∷◌, ◌++◌}
 use native.Mathlib.Omega.{arith}
-use native.Mathlib.Numerals.{add-one, add-two, add-three, add-four, add_five, add_six, add_seven}
 use mir.Val.{bool_byte}
 use lib.Dec.{eqb}
-use lib.ListN.{length, get_or, set, take, length-take}
-use lib.Seq.{sets, take-suc, take_all}
+use lib.ListN.{length, get_or, set, take}
+use lib.Seq.{sets, take_all}
 use Rattle.page.specs.Limits.{max_workers}
 use Rattle.operations.specs.declared.Worker.{Worker}
 use Rattle.machine.specs.declared.State.{State}
 use Rattle.machine.specs.Config.{state_of, blank}
-use Rattle.host.specs.Spelling.{state_words, record_at, worker_at, spelled, worker_words, joined, words_of}
-use Rattle.host.proofs.Elements.{elements, written_out, sets-append, sets-all}
+use Rattle.host.specs.Spelling.{state_words, worker_at, spelled, worker_words, joined, words_of}
+use Rattle.host.proofs.Elements.{elements, written_out, sets-all}
 
 -- ---- the records in words
 
@@ -26,20 +25,6 @@ pub length-joined : (ks : List Worker) → length (joined ks) ≡ length ks * 8
 length-joined [] = refl
 length-joined (k ∷ ks) = let e = length-joined ks in omega arith
 
--- one record more
-pub put-more : (l : List ℕ) {words : List ℕ} (ks : List Worker) (i : ℕ) → i < length ks → words ≡ sets l 6 (joined (take i ks))
-    → sets words (record_at i) (worker_words (get_or ks i blank)) ≡ sets l 6 (joined (take (i + 1) ks))
-put-more l ks i h p =
-    ap (λ (r : List ℕ). sets r (record_at i) (worker_words (get_or ks i blank))) p
-    ∙
-    let e : length (joined (take i ks)) ≡ i * 8 = length-joined (take i ks) ∙ simp length-take (omega arith) in
-    sym
-    (ap (λ (m : ℕ). sets l 6 (joined (take m ks))) (add-one i)
-    ∙ ap (λ (r : List Worker). sets l 6 (joined r)) (take-suc ks i blank h)
-    ∙ ap (sets l 6) (joined-append (take i ks) (get_or ks i blank))
-    ∙ sets-append (joined (take i ks)) (worker_words (get_or ks i blank)) l 6
-    ∙ ap (λ (m : ℕ). sets (sets l 6 (joined (take i ks))) (6 + m) (worker_words (get_or ks i blank))) e)
-
 -- ---- what the functions' returns cite
 
 -- a state by the records that were read
@@ -49,12 +34,6 @@ pub read_is : (words : List ℕ) {k0 k1 k2 k3 k4 k5 k6 k7 : Worker} → k0 ≡ w
     ≡ spelled words
 unfolding spelled
 read_is words p0 p1 p2 p3 p4 p5 p6 p7 = simp (p0, p1, p2, p3, p4, p5, p6, p7)
-
--- a record by its eight stores
-pub record_is : (words : List ℕ) (at : ℕ) (k : Worker)
-    → set (set (set (set (set (set (set (set words at k.own) (at + 1) k.got) (at + 2) k.operation) (at + 3) k.stage) (at + 4) k.tag) (at + 5) k.hand) (at + 6) k.seen) (at + 7) k.sightings
-    ≡ sets words at (worker_words k)
-record_is words at k = simp (add-one, add-two, add-three, add-four, add_five, add_six, add_seven)
 
 -- on as a number
 as_number : (b : Bool) → bool_byte b ≡ cond b 1 0

@@ -7,11 +7,9 @@ use native.Mathlib.Omega.{arith}
 use native.Mathlib.Numerals.{add-one}
 use lib.ListN.{length, get_or, drop, drop_of_length-le}
 use lib.Seq.{drop-cons}
-use Rattle.answers.specs.Rows.{outcome}
 use Rattle.operations.specs.declared.Worker.{Worker}
 use Rattle.operations.specs.Operations.{busy_b}
-use Rattle.machine.specs.declared.State.{State}
-use Rattle.machine.specs.Config.{config, came, blank}
+use Rattle.machine.specs.Config.{blank}
 use Rattle.machine.specs.Table.{any_busy}
 
 -- two tests by the outcome of the first

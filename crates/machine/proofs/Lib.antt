@@ -1,10 +1,8 @@
 pub mod Passing
 pub mod GuardArms
-pub mod FreshArms
 pub mod AskArms
 pub mod RequestArms
 pub mod MoveArms
-pub mod ToggleArms
 pub mod FreshStart
 pub mod Entries
 pub mod Totals

@@ -8,7 +8,7 @@ use native.Mathlib.Omega.{arith}
 use lib.Dec.{eqb, ltb, leb}
 use borrow.Author.Tests.{eqb-true}
 use Rattle.answers.specs.Numbers.{done, under_way, damaged}
-use Rattle.answers.specs.Rows.{Row, first, Outcome, outcome, unless, refused}
+use Rattle.answers.specs.Rows.{Row, first, Outcome, outcome, unless}
 use Rattle.lists.specs.Own.{insert_act, pop_act, append_act, extend_act, release_act, empty_act}
 use Rattle.operations.specs.Operations.{busy_b, take_shared, set_tag, ask_tag, loading, writing, exchanging, swapping, staged_b, pushes_b, one_of}
 use Rattle.staged.specs.Workers.{max_sightings}

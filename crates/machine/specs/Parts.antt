@@ -13,13 +13,11 @@ use Rattle.lists.specs.Own.{insert_of, pop_of, append_of, extend_of, release_of,
 use Rattle.operations.specs.declared.Worker.{Worker}
 use Rattle.operations.specs.Operations.{staged_b, busy_b}
 use Rattle.staged.specs.Start.{Starter, starter, start_of}
-use Rattle.staged.specs.Damage.{Turn, turn}
 use Rattle.staged.specs.Moves as staged
 use Rattle.machine.specs.Config.{Config, config, worker_of, lent_of, turn_of, put_worker, put_turn, with_heads, over, rules_b}
 use Rattle.machine.specs.Table.{insert, pop, append, extend, release, arguments_fit_b}
 use Rattle.machine.specs.Requests.{request_of}
 use Rattle.machine.specs.Moves.{move_of}
-use Rattle.machine.specs.Events.{turns_on, turns_off}
 
 -- what a request may change: the worker's record, and what the slices hold
 pub record Asker : Type 0 where

@@ -1,5 +1,5 @@
 -- Document 01's table, row by row, the smallest number first (document 01, Numbers given back).
-use Rattle.std.specs.Prelude.{ℕ, zero, suc, Bool, true, false, not, ◌&&◌, ◌||◌, cond, List, [], ◌∷◌, ltb, eqb}
+use Rattle.std.specs.Prelude.{ℕ, zero, suc, Bool, false, not, ◌&&◌, ◌||◌, cond, List, [], ◌∷◌, ltb, eqb}
 use Rattle.answers.specs.Numbers.{bad_page, no_worker, no_such, busy, idle, switched, not_empty, listed, none_left, damaged}
 use Rattle.answers.specs.Rows.{row, first}
 use Rattle.words.specs.Tagged.{address_of}

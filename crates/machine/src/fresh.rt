@@ -8,6 +8,7 @@ use answers::Refusal;
 use page::Layout;
 
 // A fresh state over a zeroed bitmap. Refused, it writes nothing.
+#[tactic(auto, unfolding(crate::specs::Config::fresh_of, crate::specs::Config::rules_b))]
 pub fn fresh(layout: Layout, w: u64, page: &[u64], bits: &mut [u64]) -> Result<State, Refusal>
     ensures { came_fresh result page.now bits.new ≡ fresh_of layout.n layout.bw w page.now bits.old }
 {

@@ -9,6 +9,7 @@ use crate::toggle::{toggle_off, toggle_on};
 use answers::Refusal;
 
 // Switches T on: it becomes 0.
+#[tactic(auto, unfolding(crate::specs::Switch::switch_on_of, crate::specs::Table::on_refusal, crate::specs::Parts::toggle_on_of, answers::specs::Rows::first))]
 pub fn switch_on(state: &mut State, page: &[u64], bits: &[u64]) -> Result<u64, Refusal>
     ensures { came_told result state.new page.now bits.now ≡ switch_on_of (config state.old page.now bits.now) }
 {
@@ -19,6 +20,7 @@ pub fn switch_on(state: &mut State, page: &[u64], bits: &[u64]) -> Result<u64, R
 }
 
 // Switches T off: the tag is told, and T becomes 0. A T that holds a list is refused, and not dropped.
+#[tactic(auto, unfolding(crate::specs::Switch::switch_off_of, crate::specs::Table::off_refusal, crate::specs::Parts::toggle_off_of, answers::specs::Rows::first))]
 pub fn switch_off(state: &mut State, page: &[u64], bits: &[u64]) -> Result<u64, Refusal>
     ensures { came_told result state.new page.now bits.now ≡ switch_off_of (config state.old page.now bits.now) }
 {

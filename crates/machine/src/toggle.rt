@@ -6,6 +6,7 @@ use answers::Refusal;
 use words::{masked_ptr_delay_get_delay, masked_ptr_delay_get_ptr};
 
 // Switches T on; its word becomes 0.
+#[tactic(auto, unfolding(crate::specs::Parts::toggle_on_of))]
 pub fn toggle_on(tagged: &mut u64, on: &mut bool) -> Result<u64, Refusal>
     ensures { toggles result tagged.new on.new ≡ toggle_on_of tagged.old on.old }
 {
@@ -18,6 +19,7 @@ pub fn toggle_on(tagged: &mut u64, on: &mut bool) -> Result<u64, Refusal>
 }
 
 // Switches T off, unless a worker is busy or T's address part is not 0; the tag is the value, and the word becomes 0.
+#[tactic(auto, unfolding(crate::specs::Parts::toggle_off_of))]
 pub fn toggle_off(busy: bool, tagged: &mut u64, on: &mut bool) -> Result<u64, Refusal>
     ensures { toggles result tagged.new on.new ≡ toggle_off_of busy tagged.old on.old }
 {

@@ -1,5 +1,5 @@
 -- All eight records are written.
-use Rattle.std.proofs.Common.{◌≡◌, ◌∙◌, rules, arith, length}
+use Rattle.std.proofs.Common.{◌≡◌, ◌∙◌, rules, length}
 use Rattle.page.specs.Limits.{max_workers}
 use Rattle.host.proofs.Spelled.{stored_is}
 use Rattle.host.proofs.spelling.store.Goals as goal
