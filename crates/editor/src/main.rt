@@ -62,6 +62,7 @@ fn main(rt: HostRuntime) -> Result<()> {
 
 impl Editor {
     // A fresh start, which the page rules allow.
+    #[tactic(auto, unfolding(machine::specs::Config::fresh_of, machine::specs::Config::rules_b, page::specs::Page::fits_b, page::specs::Page::workers_b, answers::specs::Rows::all))]
     fn new() -> Editor
         ensures { config result.state result.page result.bits ≡ (fresh_of 63 4 8 (replicate 256 0) (replicate 1 0)).after }
     {
