@@ -10,8 +10,7 @@ use Rattle.records.specs.Fill.{fill_of}
 use Rattle.records.specs.Fill as fill
 use Rattle.records.specs.Filled.{FillHolds}
 use Rattle.records.proofs.Filling.{fill_holds}
-use Rattle.machine.specs.declared.Reply.{Reply}
-use Rattle.machine.specs.Config.{Config, came, fresh_of}
+use Rattle.machine.specs.Config.{Config, fresh_of}
 use Rattle.machine.specs.Events.{event_words, Run, ran, events_of}
 use Rattle.table_check.specs.Runs.{from_fresh, run_of}
 
@@ -22,11 +21,11 @@ filled-room bytes events {r} {words} e =
     omega (arith, h.room, h.size)
 
 pub run_is : (bytes page bits answers : List ℕ) {r : Filled} {words : List ℕ} → fill.came r words ≡ fill_of bytes (replicate 160 0)
-    → {s : Reply} {zeros : List ℕ} → came s page zeros ≡ fresh_of 63 4 8 page bits
-    → {o : Outcome Run} → o ≡ events_of (ran (came s page zeros).after answers) (take (event_words * r.records) words)
+    → {c : Config} → c ≡ (fresh_of 63 4 8 page bits).after
+    → {o : Outcome Run} → o ≡ events_of (ran c answers) (take (event_words * r.records) words)
     → o ≡ run_of bytes page bits answers
 unfolding run_of
 run_is bytes page bits answers {r} {words} e f g =
     g
-    ∙ ap (λ (c : Outcome Config). events_of (ran c.after answers) (take (event_words * r.records) words)) f
+    ∙ ap (λ (c : Config). events_of (ran c answers) (take (event_words * r.records) words)) f
     ∙ ap (from_fresh page bits answers) e

@@ -34,7 +34,8 @@ pub struct Ran {
     pub answers: [u64; ANSWERS],
 }
 
-// Runs the records from a fresh start.
+// Runs the records from a fresh start, which the page rules allow.
+#[tactic(auto, unfolding(machine::specs::Config::fresh_of, machine::specs::Config::rules_b, page::specs::Page::fits_b, page::specs::Page::workers_b, answers::specs::Rows::all))]
 fn run(records: &[u8]) -> Ran
     ensures { left result ≡ zeros_run records.now }
 {
@@ -49,7 +50,13 @@ fn run(records: &[u8]) -> Ran
         bw: BLOCK_WORDS,
     };
     let mut state = fresh(layout, WORKERS, &page, &mut bits).unwrap();
-    let came = events::events(&mut state, &mut page, &mut bits, &words[..used], &mut answers);
+    let came = events::events(
+        &mut state,
+        &mut page,
+        &mut bits,
+        &words[..used],
+        &mut answers,
+    );
     Ran {
         answer: Answer::from(came),
         state,

@@ -1,5 +1,7 @@
 -- The words of the records that were decoded, a fresh start, and what the run came to.
-use Rattle.std.proofs.Common.{sym, arith, length-take-le}
+use Rattle.std.proofs.Common.{sym, ap, arith, length-take-le}
+use Rattle.answers.specs.Rows.{Outcome}
+use Rattle.machine.specs.Config.{Config}
 use Rattle.table_check.specs.Runs.{zeros_run}
 use Rattle.table_check.proofs.Running.{filled-room, run_is}
 use Rattle.table_check.proofs.runs.run.Goals as goal
@@ -15,4 +17,6 @@ slice_bounds-events-end-3 c = sym (length-take-le _ _ (filled-room _ _ c.fill-fi
 
 pub returns : goal.returns
 unfolding zeros_run
-returns c = run_is _ _ _ _ c.fill-filled.ensures c.fresh-start.ensures c.events-r.ensures
+returns c =
+    let started = ap (λ (o : Outcome Config). o.after) (rw c.unwrap-state.ensures at c.fresh.ensures) in
+    rw c.from.ensures (run_is _ _ _ _ c.fill-filled.ensures started c.events-came.ensures)
