@@ -1,5 +1,5 @@
-// The operations by the numbers of their requests, the stages of a move, what is asked of them at a start and at a move, and
-// a worker's record. No public function has a requires.
+// The operations by the numbers of their requests, the stages of a move, what is asked of them at a start and at a
+// move, and a worker's record. No public function has a requires.
 #![tactic(auto)]
 
 ghost use Rattle.std.specs.Prelude.{◌≡◌};

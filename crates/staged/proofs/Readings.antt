@@ -27,7 +27,7 @@ progresses (Err x) k c l =
     record { ended = λ v e. absurd cc; under_way = λ e. absurd cc; refused = λ f e. let same : x ≡ f = cc in (ap number_of same, refl) }
 
 pub move-is-read : MoveIsRead
-move-is-read k then x y n bw page after bits r =
+move-is-read k then common left n bw page after bits r =
     record {
       worker = refl;
       head_s = refl;
@@ -37,7 +37,7 @@ move-is-read k then x y n bw page after bits r =
       width = refl;
       words = refl;
       bitmap = refl;
-      answer = progresses r then y _;
+      answer = progresses r then left _;
       worker_after = refl;
       head_s_after = refl;
       head_t_after = refl;

@@ -27,28 +27,28 @@ pub record StartRead (k then : Worker) (bits after : List ℕ) (r : Result (Unit
 abbrev pub StartIsRead : Type 0
 StartIsRead = (k then : Worker) (bits after : List ℕ) (r : Result (Unit {0}) Refusal) → StartRead k then bits after r (starter k bits) (started r then after)
 
--- A move that ended has number 0 and its value, one under way number 1 and value 0, and a refused one its refusal's number and
--- value 0.
+-- A move that ended has number 0 and its value, one under way number 1 and value 0, and a refused one its refusal's
+-- number and value 0.
 pub record Progresses (r : Result (Option ℕ) Refusal) (o : Outcome Turn) : Type 0 where
   pub ended : (v : ℕ) → r ≡ Ok (Some v) → (o.number ≡ 0) × (o.value ≡ v)
   pub under_way : r ≡ Ok None → (o.number ≡ 1) × (o.value ≡ 0)
   pub refused : (e : Refusal) → r ≡ Err e → (o.number ≡ number_of e) × (o.value ≡ 0)
 
 -- A move is read as its worker's record, S, T, the switch, n, bw, the page before and after, and the bitmap.
-pub record MoveRead (k then : Worker) (x y : Common) (n bw : ℕ) (page after bits : List ℕ) (r : Result (Option ℕ) Refusal) (t : Turn) (o : Outcome Turn) : Type 0 where
+pub record MoveRead (k then : Worker) (common left : Common) (n bw : ℕ) (page after bits : List ℕ) (r : Result (Option ℕ) Refusal) (t : Turn) (o : Outcome Turn) : Type 0 where
   pub worker : t.worker ≡ k
-  pub head_s : t.shared ≡ x.shared
-  pub head_t : t.tagged ≡ x.tagged
-  pub switch : t.on ≡ x.on
+  pub head_s : t.shared ≡ common.shared
+  pub head_t : t.tagged ≡ common.tagged
+  pub switch : t.on ≡ common.on
   pub blocks : t.lent.n ≡ n
   pub width : t.lent.bw ≡ bw
   pub words : t.lent.page ≡ page
   pub bitmap : t.lent.bits ≡ bits
   pub answer : Progresses r o
   pub worker_after : o.after.worker ≡ then
-  pub head_s_after : o.after.shared ≡ y.shared
-  pub head_t_after : o.after.tagged ≡ y.tagged
-  pub switch_after : o.after.on ≡ y.on
+  pub head_s_after : o.after.shared ≡ left.shared
+  pub head_t_after : o.after.tagged ≡ left.tagged
+  pub switch_after : o.after.on ≡ left.on
   pub blocks_after : o.after.lent.n ≡ n
   pub width_after : o.after.lent.bw ≡ bw
   pub words_after : o.after.lent.page ≡ after
@@ -56,5 +56,5 @@ pub record MoveRead (k then : Worker) (x y : Common) (n bw : ℕ) (page after bi
 
 abbrev pub MoveIsRead : Type 0
 MoveIsRead =
-    (k then : Worker) (x y : Common) (n bw : ℕ) (page after bits : List ℕ) (r : Result (Option ℕ) Refusal)
-    → MoveRead k then x y n bw page after bits r (turn_of k x (lent n bw page bits)) (went n bw r then y after bits)
+    (k then : Worker) (common left : Common) (n bw : ℕ) (page after bits : List ℕ) (r : Result (Option ℕ) Refusal)
+    → MoveRead k then common left n bw page after bits r (turn_of k common (lent n bw page bits)) (went n bw r then left after bits)

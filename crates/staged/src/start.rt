@@ -1,5 +1,5 @@
-// The start of requests 6 to 12: refused with 4, 5, 7, 8 or 9, or under way with the record set afresh. No public function
-// has a requires.
+// The start of requests 6 to 12: refused with 4, 5, 7, 8 or 9, or under way with the record set afresh. No public
+// function has a requires.
 ghost use Rattle.std.specs.Prelude.{◌≡◌};
 ghost use Rattle.staged.specs.Workers.{begun};
 ghost use Rattle.staged.specs.Start.{starter, started, start_fits_b, start_of};
