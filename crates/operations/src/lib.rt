@@ -1,5 +1,6 @@
 // The operations by the numbers of their requests, the stages of a move, what is asked of them at a start and at a
-// move, and a worker's record. No public function has a requires.
+// move, and a worker's record. No public function has a requires: operations and stages are numbers, not enums, since a
+// request and a record may hold any number, and each test has an answer for it.
 #![tactic(auto)]
 
 ghost use Rattle.std.specs.Prelude.{◌≡◌};

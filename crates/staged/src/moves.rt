@@ -11,7 +11,8 @@ use answers::Refusal;
 use operations::{EXCHANGING, LOADING, SWAPPING, WRITING, Worker};
 use page::Layout;
 
-// Makes one move of a worker, by its stage: None while its operation is under way, its value where it ended.
+// Makes one move of a worker, by its stage: None while its operation is under way, its value where it ended. The slices
+// are lent apart from the layout, since a move writes the page and only reads the bits.
 #[tactic(auto, unfolding(crate::specs::Moves::move_of, crate::specs::Moves::move_refusal, crate::specs::Moves::move_act, answers::specs::Rows::first))]
 pub fn make(
     k: &mut Worker,
