@@ -115,6 +115,7 @@ impl Editor {
     {
         let filled = records::fill(&self.bytes[..got], &mut self.events);
         let words = EVENT_WORDS * filled.records;
+        // The count is that of the records, and a refused run is one that `perform_of` tells of too.
         let _ = events::events(
             &mut self.state,
             &mut self.page,
@@ -126,7 +127,8 @@ impl Editor {
     }
 }
 
-// Reads until the room is full, the input ends or a read fails, and counts the bytes that came.
+// Reads until the room is full, the input ends or a read fails, and counts the bytes that came. What came before a failed read
+// counts too, so the count is not in the result. Each read says how far the next one starts, so no `for` fits.
 fn read_full<R: Read>(input: &mut R, bytes: &mut [u8], got: &mut usize) -> io::Result<()>
     requires { got.old ≤ length bytes.old }
     ensures { got.new ≤ length bytes.new }

@@ -16,7 +16,7 @@ const BAD: usize = 4;
 // Room for the lines of one read's answers, and `bad`.
 const ROOM: usize = LINE * RECORDS + BAD;
 
-// A text and the room that it stands in: it ends before the byte at `end`.
+// A text and the room that it stands in: it ends before the byte at `end`. A room with an end beside it, since there is no heap.
 #[derive(Drop)]
 pub struct Text {
     pub room: [u8; ROOM],
