@@ -5,7 +5,7 @@ use mathlib.Core.Path.{◌≡◌, refl, sym, ap, ◌∙◌}
 use mathlib.Core.Logic.{◌≢◌, ◌↔◌}
 use mathlib.Core.Bool.{true, false, ◌&&◌, cond}
 use mathlib.Core.List.{[], ◌∷◌}
-use native.Mathlib.Nat.{mul_left_comm, mul_comm, mul_assoc, mul-pos, mul-le-mul_right, mul-lt-mul_of_pos_right, eq_of_mul-eq-mul_right, div-add-mod', div-le_of_le-mul, le-div_iff_mul-le, mul-div_cancel, mul-div-mul_left, mul-mod_left}
+use native.Mathlib.Nat.{mul-le-mul, mul_left_comm, mul_comm, mul_assoc, mul-pos, mul-le-mul_right, mul-lt-mul_of_pos_right, eq_of_mul-eq-mul_right, div-add-mod', div-le_of_le-mul, le-div_iff_mul-le, mul-div_cancel, mul-div-mul_left, mul-mod_left}
 use native.Mathlib.Omega.{arith}
 use lib.Dec.{leb, eqb}
 use lib.ListN.{length}
@@ -125,6 +125,10 @@ address-pos bw i s l = omega (arith, mul-pos {m = i} {n = bw} (omega arith) (ome
 -- and so it is not 0, which means none
 pub address-some : (bw i : ℕ) → 1 ≤ bw → 1 ≤ i → address_of bw i ≢ 0
 address-some bw i s l e = omega (arith, address-pos bw i s l)
+
+-- it is below 2^21
+pub address-fits : (bw i : ℕ) → bw ≤ max_width → i ≤ max_blocks → address_of bw i < 2097152
+address-fits bw i s l = omega (arith, mul-le-mul {n₂ = max_blocks} {m₂ = max_width} l s)
 
 -- two blocks do not start at one word
 pub place-apart : (bw i j : ℕ) → 1 ≤ bw → place bw i ≡ place bw j → i ≡ j
