@@ -1,10 +1,11 @@
 -- One worker's part of a request, and T's switch: its record, the head words, the switch and what is lent. The page rules are
 -- tested before.
-use Rattle.std.specs.Prelude.{ℕ, ◌≡◌, Bool, true, false, not, cond, List, eqb, ltb, Option, Result}
+use Rattle.std.specs.Prelude.{ℕ, ◌≡◌, Bool, true, false, not, cond, List, eqb, ltb, Option, Result, Ok, Err, ◌||◌}
 use Rattle.answers.specs.Numbers.{done, no_such, busy, switched, not_empty}
 use Rattle.answers.specs.Rows.{Outcome, outcome, refused}
 use Rattle.answers.specs.Refusals.{progress, told}
 use Rattle.answers.specs.declared.Refusal.{Refusal}
+use Rattle.answers.specs.declared.Refusal.TheVariants.{NoSuch}
 use Rattle.words.specs.Tagged.{tag_of, address_of}
 use Rattle.page.specs.Page.{Lent, lent}
 use Rattle.lists.specs.declared.Heads.{Heads}
@@ -15,7 +16,9 @@ use Rattle.operations.specs.Operations.{staged_b, busy_b}
 use Rattle.staged.specs.Start.{Starter, starter, start_of}
 use Rattle.staged.specs.Moves as staged
 use Rattle.machine.specs.Config.{Config, config, worker_of, lent_of, turn_of, put_worker, put_turn, with_heads, over, rules_b}
-use Rattle.machine.specs.Table.{insert, pop, append, extend, release, arguments_fit_b}
+use Rattle.machine.specs.declared.ask.AtOnce.{AtOnce}
+use Rattle.machine.specs.declared.ask.AtOnce.TheVariants.{Insert, Pop, Append, Extend, Release, AskEmpty}
+use Rattle.machine.specs.Table.{insert, pop, append, extend, release, ask_empty, arguments_fit_b}
 use Rattle.machine.specs.Requests.{request_of}
 use Rattle.machine.specs.Moves.{move_of}
 
@@ -39,6 +42,27 @@ abbrev pub put_asker : Config → ℕ → Asker → Config
 put_asker c w x = config (put_worker c.state w x.worker) x.lent.page x.lent.bits
 
 -- ---- 1 to 5 and 13
+
+-- the number of a request that acts at once
+abbrev pub number_of : AtOnce → ℕ
+number_of Insert = insert
+number_of Pop = pop
+number_of Append = append
+number_of Extend = extend
+number_of Release = release
+number_of AskEmpty = ask_empty
+
+-- one of the six
+abbrev pub acts_b : ℕ → Bool
+acts_b code = eqb code insert || eqb code pop || eqb code append || eqb code extend || eqb code release || eqb code ask_empty
+
+-- a number means the request that has it; any other is refused with 4
+abbrev pub numbered : ℕ → Result ℕ Refusal
+numbered code = cond (acts_b code) (Ok code) (Err NoSuch)
+
+abbrev pub meant : Result AtOnce Refusal → Result ℕ Refusal
+meant (Ok request) = Ok (number_of request)
+meant (Err refusal) = Err refusal
 
 abbrev pub heads_in : Worker → Heads
 heads_in k = record { own = k.own; got = k.got }

@@ -5,40 +5,54 @@ ghost use Rattle.lists.specs.Lists.{lists, came};
 ghost use Rattle.operations.specs.Operations.{busy_b};
 ghost use Rattle.machine.specs.Table.{arguments_fit_b};
 ghost use Rattle.machine.specs.Config.{with_heads};
-ghost use Rattle.machine.specs.Parts.{asker, answered, at_once_of, ask_lists_of, ask_of, heads_in};
+ghost use Rattle.machine.specs.Parts.{asker, answered, at_once_of, ask_lists_of, ask_of, heads_in, meant, number_of, numbered};
 
 use answers::Refusal;
 use lists::Heads;
-use operations::{AWAIT_TAG, PUSH_SHARED, Worker, is_staged};
+use operations::{Worker, is_staged};
 use page::Layout;
-use staged::start::{start, start_fits};
+use staged::start::start;
+use std::convert::TryFrom;
 
-pub const INSERT: u64 = 1;
+// The requests that act at once, by their numbers.
+#[derive(Clone, Copy, Debug, PartialEq, Eq)]
+pub enum AtOnce {
+    Insert = 1,
+    Pop = 2,
+    Append = 3,
+    Extend = 4,
+    Release = 5,
+    AskEmpty = 13,
+}
 
-pub const POP: u64 = 2;
+// Any other number is refused with 4.
+impl TryFrom<u64> for AtOnce {
+    type Error = Refusal;
 
-pub const APPEND: u64 = 3;
+    ghost try_from_gives = { λ code r. meant r ≡ numbered code };
 
-pub const EXTEND: u64 = 4;
-
-pub const RELEASE: u64 = 5;
-
-pub const ASK_EMPTY: u64 = 13;
-
-// Whether there is such a request, and it has the block, the run or the tag that it asks for: row 4 of the
-// table whole, also of 6 to 12, whose start tests it itself.
-#[tactic(auto, unfolding(crate::specs::Table::arguments_fit_b))]
-fn arguments_fit(layout: Layout, code: u64, a: u64, b: u64) -> bool
-    ensures { result ≡ arguments_fit_b layout.n code a b }
-{
-    if is_staged(code) {
-        return start_fits(layout, code, a);
+    fn try_from(code: u64) -> Result<AtOnce, Refusal> {
+        Ok(match code {
+            1 => AtOnce::Insert,
+            2 => AtOnce::Pop,
+            3 => AtOnce::Append,
+            4 => AtOnce::Extend,
+            5 => AtOnce::Release,
+            13 => AtOnce::AskEmpty,
+            _ => return Err(Refusal::NoSuch),
+        })
     }
-    match code {
-        INSERT => layout.is_block(a),
-        EXTEND => layout.is_run(a, b),
-        POP | APPEND | RELEASE | ASK_EMPTY => true,
-        _ => false,
+}
+
+// Whether a request has the block or the run that it asks for.
+#[tactic(auto, unfolding(crate::specs::Table::arguments_fit_b, operations::specs::Operations::staged_b))]
+fn arguments_fit(layout: Layout, request: AtOnce, a: u64, b: u64) -> bool
+    ensures { result ≡ arguments_fit_b layout.n (number_of request) a b }
+{
+    match request {
+        AtOnce::Insert => layout.is_block(a),
+        AtOnce::Extend => layout.is_run(a, b),
+        AtOnce::Pop | AtOnce::Append | AtOnce::Release | AtOnce::AskEmpty => true,
     }
 }
 
@@ -49,37 +63,37 @@ fn at_once(
     layout: Layout,
     page: &mut [u64],
     bits: &mut [u64],
-    code: u64,
+    request: AtOnce,
     a: u64,
     b: u64,
 ) -> Result<u64, Refusal>
-    ensures { came layout.n layout.bw result heads.new page.new bits.new ≡ at_once_of (lists heads.old.own heads.old.got layout.n layout.bw page.old bits.old) code a b }
+    ensures { came layout.n layout.bw result heads.new page.new bits.new ≡ at_once_of (lists heads.old.own heads.old.got layout.n layout.bw page.old bits.old) (number_of request) a b }
 {
-    match code {
-        INSERT => heads.insert_block(layout, page, bits, a),
-        POP => heads.pop_block(layout, page, bits),
-        APPEND => heads.append(layout, page, bits),
-        EXTEND => heads.prepend_contiguous_blocks(layout, page, bits, a, b),
-        RELEASE => heads.make_empty(layout, page, bits),
-        _ => heads.is_empty(layout, page, bits),
+    match request {
+        AtOnce::Insert => heads.insert_block(layout, page, bits, a),
+        AtOnce::Pop => heads.pop_block(layout, page, bits),
+        AtOnce::Append => heads.append(layout, page, bits),
+        AtOnce::Extend => heads.prepend_contiguous_blocks(layout, page, bits, a, b),
+        AtOnce::Release => heads.make_empty(layout, page, bits),
+        AtOnce::AskEmpty => heads.is_empty(layout, page, bits),
     }
 }
 
-// A request that is none of 6 to 12: refused with 4 or 5, or it acts at once on own and got.
+// Refused with 4 or 5, or it acts at once on own and got.
 #[tactic(auto, unfolding(crate::specs::Parts::ask_lists_of))]
 fn ask_lists(
     k: &mut Worker,
     layout: Layout,
     page: &mut [u64],
     bits: &mut [u64],
-    code: u64,
+    request: AtOnce,
     a: u64,
     b: u64,
 ) -> Result<u64, Refusal>
-    ensures lists { came layout.n layout.bw result (heads_in k.new) page.new bits.new ≡ ask_lists_of (busy_b k.old) (lists k.old.own k.old.got layout.n layout.bw page.old bits.old) code a b }
+    ensures lists { came layout.n layout.bw result (heads_in k.new) page.new bits.new ≡ ask_lists_of (busy_b k.old) (lists k.old.own k.old.got layout.n layout.bw page.old bits.old) (number_of request) a b }
     ensures record { k.new ≡ with_heads k.old k.new.own k.new.got }
 {
-    if !arguments_fit(layout, code, a, b) {
+    if !arguments_fit(layout, request, a, b) {
         return Err(Refusal::NoSuch);
     }
     if k.is_busy() {
@@ -89,7 +103,7 @@ fn ask_lists(
         own: k.own,
         got: k.got,
     };
-    let answer = at_once(&mut heads, layout, page, bits, code, a, b);
+    let answer = at_once(&mut heads, layout, page, bits, request, a, b);
     k.own = heads.own;
     k.got = heads.got;
     answer
@@ -109,9 +123,10 @@ pub fn ask(
 ) -> Result<Option<u64>, Refusal>
     ensures { answered layout.n layout.bw result k.new page.new bits.new ≡ ask_of on (asker k.old (lent layout.n layout.bw page.old bits.old)) code a b }
 {
-    match code {
-        INSERT..=RELEASE | ASK_EMPTY => ask_lists(k, layout, page, bits, code, a, b).map(Some),
-        PUSH_SHARED..=AWAIT_TAG => start(k, layout, on, bits, code, a).map(|()| None),
-        _ => Err(Refusal::NoSuch),
+    if is_staged(code) {
+        start(k, layout, on, bits, code, a)?;
+        return Ok(None);
     }
+    let request = AtOnce::try_from(code)?;
+    ask_lists(k, layout, page, bits, request, a, b).map(Some)
 }
