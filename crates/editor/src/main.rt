@@ -94,8 +94,8 @@ impl Editor {
         Ok(())
     }
 
-    // Reads once, answers the records that came, writes the answers, and says whether more is to be read. A read that fails
-    // ends the turn once what came before is answered, as the input's end would.
+    // Reads once, answers the records that came, writes the answers, and says whether more is to be read. A read that
+    // fails ends the turn once what came before is answered, as the input's end would.
     fn turn<R: Read, W: Write>(&mut self, input: &mut R, output: &mut W) -> Result<bool> {
         let mut got = 0;
         let ended = read_full(input, &mut self.bytes, &mut got);
@@ -127,8 +127,8 @@ impl Editor {
     }
 }
 
-// Reads until the room is full, the input ends or a read fails, and counts the bytes that came. What came before a failed read
-// counts too, so the count is not in the result. Each read says how far the next one starts, so no `for` fits.
+// Reads until the room is full, the input ends or a read fails, and counts the bytes that came. What came before a
+// failed read counts too, so the count is not in the result. A read says where the next one starts, so no `for` fits.
 fn read_full<R: Read>(input: &mut R, bytes: &mut [u8], got: &mut usize) -> io::Result<()>
     requires { got.old ≤ length bytes.old }
     ensures { got.new ≤ length bytes.new }

@@ -16,7 +16,8 @@ const BAD: usize = 4;
 // Room for the lines of one read's answers, and `bad`.
 const ROOM: usize = LINE * RECORDS + BAD;
 
-// A text and the room that it stands in: it ends before the byte at `end`. A room with an end beside it, since there is no heap.
+// A text and the room that it stands in: it ends before the byte at `end`. There is no heap, so a room has its end
+// beside it.
 #[derive(Drop)]
 pub struct Text {
     pub room: [u8; ROOM],

@@ -24,8 +24,8 @@ const EVENTS: usize = 160;
 
 const ANSWERS: usize = 64;
 
-// What a run leaves: its answer, the state, the page and the bitmap, and the answers of its events. The answer is a number with
-// a value, as in `Outcome`, since `Answers` counts by the value of a refused run too.
+// What a run leaves: its answer, the state, the page and the bitmap, and the answers of its events. The answer is a
+// number with a value, as in `Outcome`, since `Answers` counts by the value of a refused run too.
 #[derive(Drop)]
 pub struct Ran {
     pub answer: Answer,
