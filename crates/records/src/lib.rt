@@ -161,8 +161,8 @@ fn fill_one(bytes: &[u8], events: &mut [u64], k: usize) -> Result<(), Stop>
 }
 
 // Decodes the records from the start of bytes to five words each: kind, worker, code, a, b. It stops where the bytes
-// end, at a cut record, at an unknown mark, or where five more words have no room. The first 8 * records bytes are used.
-// No `for` counts the records, since the stop that ends them is part of the result.
+// end, at a cut record, at an unknown mark, or where five more words have no room. The first 8 * records bytes are
+// used. No `for` counts the records, since the stop that ends them is part of the result.
 pub fn fill(bytes: &[u8], events: &mut [u64]) -> Filled
     ensures { came result events.new ≡ fill_of bytes.now events.old }
 {

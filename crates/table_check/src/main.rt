@@ -1,5 +1,5 @@
-// Document 01's table, P1 to P12, and its whole case, run through the compiled library and proved. A record is a mark (SU a
-// request, MV a move, EN on), worker, code, a and b; an expected answer is a number and a value.
+// Document 01's table, P1 to P12, and its whole case, run through the compiled library and proved. A record is a mark
+// (SU a request, MV a move, EN on), worker, code, a and b; an expected answer is a number and a value.
 #![tactic(auto, using(crate::proofs::Vectors::vectors))]
 
 mod runs;
