@@ -45,7 +45,10 @@ pub extern "C" fn albmerik_fresh(
     ensures { gave result state.new page.now bits.new ≡ fresh_in_words (fresh_of n bw w page.now bits.old) }
 {
     let made = machine::fresh::fresh(Layout { n, bw }, w, page, bits);
-    store(state, made.unwrap_or(State::at_rest(Layout { n: 0, bw: 0 }, 0)));
+    store(
+        state,
+        made.unwrap_or(State::at_rest(Layout { n: 0, bw: 0 }, 0)),
+    );
     Answer::from(made.map(|_| 0))
 }
 

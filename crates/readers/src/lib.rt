@@ -66,7 +66,13 @@ pub fn entry<'a>(layout: Layout, w: u64, page: &'a [u64], bits: &[u64], a: u64) 
 
 // Which number applies to block a's entry.
 #[tactic(auto, unfolding(machine::specs::Readers::entry_answer_of))]
-pub fn entry_answer(layout: Layout, w: u64, page: &[u64], bits: &[u64], a: u64) -> Result<u64, Refusal>
+pub fn entry_answer(
+    layout: Layout,
+    w: u64,
+    page: &[u64],
+    bits: &[u64],
+    a: u64,
+) -> Result<u64, Refusal>
     ensures { told result ≡ entry_answer_of (lent layout.n layout.bw page.now bits.now) w a }
 {
     entry_readable(layout, w, page, bits, a)?;
@@ -87,7 +93,14 @@ fn equal_leading(x: &[u64], y: &[u64]) -> u64
 
 // Whether both entries may be read: 2, 4 or 9 where one may not, the smallest first.
 #[tactic(auto, unfolding(machine::specs::Readers::compare_refusal, machine::specs::Readers::reads_b, answers::specs::Rows::first))]
-fn both_readable(layout: Layout, w: u64, page: &[u64], bits: &[u64], a: u64, b: u64) -> Result<(), Refusal>
+fn both_readable(
+    layout: Layout,
+    w: u64,
+    page: &[u64],
+    bits: &[u64],
+    a: u64,
+    b: u64,
+) -> Result<(), Refusal>
     ensures { readable result ≡ compare_refusal (lent layout.n layout.bw page.now bits.now) w a b }
 {
     if !rules(layout, w, page.len(), bits.len()) {

@@ -8,8 +8,8 @@ pub returns-then-y-i : goal.returns-then-y-i
 returns-then-y-i c =
     let x = c.args in
     elim c.then-y-i.branch [
-      then-y-i-via-then-y-i w ↦ omega (arith, leading-end' x.x.now x.y.now c.loop-i.i (omega arith) (omega arith)) |
-      then-y-i-via-else-y-i+then-p-y w ↦ omega (arith, leading-stop x.x.now x.y.now c.loop-i.i (omega arith) (omega arith) w.if-p-y.true)
+      | then-y-i-via-then-y-i w ↦ omega (arith, leading-end' x.x.now x.y.now c.loop-i.i (omega arith) (omega arith))
+      | then-y-i-via-else-y-i+then-p-y w ↦ omega (arith, leading-stop x.x.now x.y.now c.loop-i.i (omega arith) (omega arith) w.if-p-y.true)
     ]
 
 pub loop-i-preserved : goal.loop-i-preserved
