@@ -37,7 +37,7 @@ pub const DONE: u64 = 0;
 // The number of one that is under way.
 pub const UNDER_WAY: u64 = 1;
 
-// Number and value, as they are handed to C.
+// Number and value, as C and the words of a run of events are handed them.
 #[repr(C)]
 #[derive(Clone, Copy, Debug, PartialEq, Eq)]
 pub struct Answer {

@@ -9,7 +9,7 @@ pub mod count;
 pub mod first;
 pub mod runs;
 
-// Word w; 0 past the slice's end.
+// Word w; past the slice's end 0, where no bit is set.
 fn word_at(bits: &[u64], w: u64) -> u64
     ensures { result ≡ get_or bits.now w 0 }
 {

@@ -21,7 +21,7 @@ pub fn workers_fit(w: u64) -> bool
     1 <= w && w <= MAX_WORKERS
 }
 
-// The link at an address; 0 past the page's end.
+// The link at an address; past the page's end 0, which is no block's address.
 pub fn link(page: &[u64], h: u64) -> u64
     ensures { result ≡ link_at page.now h }
 {

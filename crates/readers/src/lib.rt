@@ -91,7 +91,8 @@ fn equal_leading(x: &[u64], y: &[u64]) -> u64
     x.len() as u64
 }
 
-// Whether both entries may be read: 2, 4 or 9 where one may not, the smallest first.
+// Whether both entries may be read: 2, 4 or 9 where one may not, the smallest first. For one and for two blocks the
+// tests are written out: a number of blocks as a parameter would need loops, and a definition over lists.
 #[tactic(auto, unfolding(machine::specs::Readers::compare_refusal, machine::specs::Readers::reads_b, answers::specs::Rows::first))]
 fn both_readable(
     layout: Layout,

@@ -33,6 +33,7 @@ pub fn make(
     if is_damaged(k, common, layout, bits) {
         return Err(Refusal::Damaged);
     }
+    // the stage is a number of the record, and the damage test has shut out all but the five
     Ok(match k.stage {
         LOADING => load(k, common),
         WRITING => write(k, layout, page),

@@ -8,7 +8,7 @@ ghost use Rattle.words.specs.Tagged.{address_of, tag_of, use_delayed_free, freei
 
 use answers::Refusal;
 
-// The tags.
+// The tags. They are numbers, not an enum: a tag is handed in as any number, and told as the value of a call.
 pub const USE_DELAYED_FREE: u64 = 0;
 
 pub const FREEING: u64 = 1;
