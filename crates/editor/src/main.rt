@@ -109,11 +109,11 @@ impl Editor {
 
     // Decodes the records of the first bytes and lets their events happen, with each one's answer in its place.
     fn perform(&mut self, got: usize) -> Filled
-        requires { got ≤ length self.old.bytes }
         ensures answers_after { performed result.records (Some result.stop) (config self.new.state self.new.page self.new.bits) self.new.answers ≡ perform_of (config self.old.state self.old.page self.old.bits) (take got self.old.bytes) self.old.events self.old.answers }
         ensures records_in_bounds { 8 * result.records ≤ got }
     {
-        let filled = records::fill(&self.bytes[..got], &mut self.events);
+        let room = self.bytes.len();
+        let filled = records::fill(&self.bytes[..got.min(room)], &mut self.events);
         let words = EVENT_WORDS * filled.records;
         // The count is that of the records, and a refused run is one that `perform_of` tells of too.
         let _ = events::events(
@@ -130,9 +130,9 @@ impl Editor {
 // Reads until the room is full, the input ends or a read fails, and counts the bytes that came. What came before a
 // failed read counts too, so the count is not in the result. A read says where the next one starts, so no `for` fits.
 fn read_full<R: Read>(input: &mut R, bytes: &mut [u8], got: &mut usize) -> io::Result<()>
-    requires { got.old ≤ length bytes.old }
     ensures { got.new ≤ length bytes.new }
 {
+    *got = 0;
     while *got < bytes.len() {
         match input.read(&mut bytes[*got..])? {
             0 => break,

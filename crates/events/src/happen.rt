@@ -1,5 +1,5 @@
 // One event: a request or a move of a worker, or T switched.
-ghost use Rattle.std.specs.Prelude.{◌≡◌, get_or};
+ghost use Rattle.std.specs.Prelude.{◌≡◌};
 ghost use Rattle.machine.specs.Config.{config, came};
 ghost use Rattle.machine.specs.Events.{event_at};
 

@@ -1,7 +1,7 @@
 // A run of events in a lent slice, with the state changed in place. No public function has a requires.
 #![tactic(auto)]
 
-ghost use Rattle.std.specs.Prelude.{◌≡◌, ◌+◌, ◌*◌, ◌/◌, ◌<◌, ◌≤◌, length, set};
+ghost use Rattle.std.specs.Prelude.{◌≡◌, ◌+◌, ◌*◌, ◌<◌, ◌≤◌, length, set};
 ghost use Rattle.machine.specs.Config.{config};
 ghost use Rattle.machine.specs.Events.{event_words, answer_words, ran, came_run, run_of, events_of};
 ghost use Rattle.events.specs.Parts.{words_at};

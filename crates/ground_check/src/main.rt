@@ -39,6 +39,7 @@ fn joins() {
 fn refusals() {
     expect(words::masked_ptr_delay_set_delay(98, 4) == Err(Refusal::NoSuch));
     expect(words::masked_ptr_delay_set_ptr(97, 98) == Err(Refusal::NoSuch));
+    expect(u64::from(Refusal::NoSuch) == 4);
 }
 
 // Bits of three words, and past their end.

@@ -3,7 +3,6 @@ use Prim.Native.Nat.{ℕ, zero, suc, ◌+◌}
 use mathlib.Core.Path.{◌≡◌, ap, ◌∙◌}
 use mathlib.Core.List.{List, [], ◌∷◌, ◌++◌, append-nil}
 use native.Mathlib.Omega.{arith}
-use native.Mathlib.Nat.{add-zero, add-suc, suc-add}
 use lib.ListN.{length, get_or, drop, drop_of_length-le}
 use lib.Seq.{drop-cons, sets, sets-eq}
 
@@ -17,11 +16,6 @@ module _ {A : Type 0} where
   pub written_out : (l : List A) (d : A) (i k : ℕ) → i + k ≡ length l → drop i l ≡ elements l d i k
   written_out l d i zero e = drop_of_length-le l {i = i} (omega arith)
   written_out l d i (suc k) e = drop-cons l i d (omega arith) ∙ ap (λ (r : List A). get_or l i d ∷ r) (written_out l d (suc i) k (omega arith))
-
-  -- one run of stores after another
-  pub sets-append : (xs ys l : List A) (i : ℕ) → sets l i (xs ++ ys) ≡ sets (sets l i xs) (i + length xs) ys
-  sets-append [] ys l i = simp add-zero
-  sets-append (x ∷ xs) ys l i = sets-append xs ys _ (suc i) ∙ simp (add-suc, suc-add)
 
   -- a list stored over all of another
   pub sets-all : (l vs : List A) → length l ≡ length vs → sets l 0 vs ≡ vs

@@ -1,8 +1,8 @@
 -- A state and its words: each says the other. Assumes nothing.
 use Prim.Native.Nat.{ℕ, zero, suc, ◌*◌, ◌≤◌}
-use mathlib.Core.Path.{◌≡◌, refl, sym, ap, subst}
+use mathlib.Core.Path.{◌≡◌, refl, sym, subst}
 use mathlib.Core.Bool.{Bool, true, false, not, cond}
-use mathlib.Core.List.{List, [], ◌∷◌, ◌++◌}
+use mathlib.Core.List.{List, [], ◌∷◌}
 use native.Mathlib.Omega.{arith}
 use mir.Val.{bool_byte}
 use lib.Dec.{eqb}
@@ -12,14 +12,10 @@ use Rattle.page.specs.Limits.{max_workers}
 use Rattle.operations.specs.declared.Worker.{Worker}
 use Rattle.machine.specs.declared.State.{State}
 use Rattle.machine.specs.Config.{state_of, blank}
-use Rattle.host.specs.Spelling.{state_words, worker_at, spelled, worker_words, joined, words_of}
+use Rattle.host.specs.Spelling.{state_words, worker_at, spelled, joined, words_of}
 use Rattle.host.proofs.Elements.{elements, written_out, sets-all}
 
 -- ---- the records in words
-
-joined-append : (ks : List Worker) (k : Worker) → joined (ks ++ (k ∷ [])) ≡ joined ks ++ worker_words k
-joined-append [] k = refl
-joined-append (x ∷ ks) k = ap (λ (l : List ℕ). worker_words x ++ l) (joined-append ks k)
 
 pub length-joined : (ks : List Worker) → length (joined ks) ≡ length ks * 8
 length-joined [] = refl

@@ -13,12 +13,15 @@ ghost use Rattle.machine.specs.Readers.{listed_count_of, first_unlisted_of, entr
 ghost use Rattle.host.specs.Spelling.{spelled};
 ghost use Rattle.host.specs.Calls.{gave, holding, written, in_words, fresh_in_words, gave_run, run_in_words};
 
-use crate::spelling::{STATE_WORDS, W, layout, load, store};
+use crate::spelling::{W, layout, load, store};
 use answers::{Answer, Refusal};
 use machine::State;
 use page::Layout;
 
 mod spelling;
+
+// How many words spell a state.
+pub const STATE_WORDS: usize = 70;
 
 // Writes the state unless the call was refused, and tells its answer.
 #[tactic(auto, unfolding(crate::specs::Calls::written))]
@@ -32,7 +35,8 @@ fn finish(words: &mut [u64; STATE_WORDS], s: State, told: Result<Option<u64>, Re
     Answer::from(told)
 }
 
-// A fresh start over a zeroed bitmap. It reads no word of state; refused, it writes 0 to all of them and to nothing else.
+// A fresh start over a zeroed bitmap. It reads no word of state; refused, it writes 0 to all of them and to nothing
+// else.
 #[unsafe(no_mangle)]
 pub extern "C" fn albmerik_fresh(
     state: &mut [u64; STATE_WORDS],

@@ -5,12 +5,10 @@ ghost use Rattle.page.specs.Limits.{max_workers};
 ghost use Rattle.machine.specs.Config.{layout_of};
 ghost use Rattle.host.specs.Spelling.{state_words, record_at, worker_at, spelled, worker_words, words_of};
 
+use crate::STATE_WORDS;
 use machine::State;
 use operations::Worker;
 use page::Layout;
-
-// How many words spell a state.
-pub const STATE_WORDS: usize = 70;
 
 // The places of n, bw, W, S, T and of whether T is on.
 const N: usize = 0;
@@ -64,6 +62,7 @@ fn worker_at(words: &[u64; STATE_WORDS], i: usize) -> Worker
 pub fn load(words: &[u64; STATE_WORDS]) -> State
     ensures { result ≡ spelled words.now }
 {
+    // written out, since a closure over the places would have to be shown that each is below 8
     let workers = [
         worker_at(words, 0),
         worker_at(words, 1),

@@ -1,5 +1,6 @@
 // The archive for a host program in C or Rust: the ten functions of `host`, each under its own name and with its own
-// clause. A crate is a library or a static library, so the machine for a host stands in `host`, and this is what C calls.
+// clause. A crate is a library or a static library, so the machine for a host stands in `host`, and this is what C
+// calls.
 #![tactic(auto)]
 
 ghost use Rattle.std.specs.Prelude.{◌≡◌};
@@ -13,11 +14,10 @@ ghost use Rattle.host.specs.Spelling.{spelled};
 ghost use Rattle.host.specs.Calls.{gave, holding, in_words, fresh_in_words, gave_run, run_in_words};
 
 use answers::Answer;
+use host::STATE_WORDS;
 
-// How many words spell a state.
-const STATE_WORDS: usize = 70;
-
-// A fresh start over a zeroed bitmap. It reads no word of state; refused, it writes 0 to all of them and to nothing else.
+// A fresh start over a zeroed bitmap. It reads no word of state; refused, it writes 0 to all of them and to nothing
+// else.
 #[unsafe(no_mangle)]
 pub extern "C" fn albmerik_fresh(
     state: &mut [u64; STATE_WORDS],

@@ -1,4 +1,4 @@
--- The page rules with W, the busy workers of a walk over the records, and what a call gives back. Assumes nothing.
+-- The busy workers of a walk over the records. Assumes nothing.
 use Prim.Native.Nat.{ℕ, suc, ◌+◌, ◌-◌, ◌≤◌, ◌<◌}
 use mathlib.Core.Path.{◌≡◌, refl, ap, ◌∙◌}
 use mathlib.Core.Bool.{Bool, false, ◌&&◌, ◌||◌}
@@ -11,10 +11,6 @@ use Rattle.operations.specs.declared.Worker.{Worker}
 use Rattle.operations.specs.Operations.{busy_b}
 use Rattle.machine.specs.Config.{blank}
 use Rattle.machine.specs.Table.{any_busy}
-
--- two tests by the outcome of the first
-pub and-by : {a v : Bool} (b : Bool) → a ≡ v → v && b ≡ a && b
-and-by b e = simp e
 
 -- ---- the records from i on
 

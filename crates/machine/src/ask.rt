@@ -1,4 +1,5 @@
-// A worker's part of a request: its record, the switch and the lent slices. The page rules and the worker are tested before.
+// A worker's part of a request: its record, the switch and the lent slices. The page rules and the worker are tested
+// before. Code, a and b stand side by side, as a host and the words of an event hand them in.
 ghost use Rattle.std.specs.Prelude.{◌≡◌};
 ghost use Rattle.page.specs.Page.{lent};
 ghost use Rattle.lists.specs.Lists.{lists, came};

@@ -21,8 +21,8 @@ pub mod toggle;
 // The worker records that a state has: as many as there may be workers.
 pub const RECORDS: usize = 8;
 
-// The state: the page's numbers, the shared head, the tagged word and its switch, and the worker records. Its fields stand
-// side by side, as the theorems of `demands` name them; any numbers may stand in them.
+// The state: the page's numbers, the shared head, the tagged word and its switch, and the worker records. Its fields
+// stand side by side, as the theorems of `demands` name them; any numbers may stand in them.
 #[derive(Clone, Copy)]
 pub struct State {
     pub n: u64,

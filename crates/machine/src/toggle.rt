@@ -1,4 +1,5 @@
-// T switched on and off: its word and its switch alone. The page rules are tested before.
+// T switched on and off: its word and its switch alone, which the state lends one beside the other. The page rules are
+// tested before.
 ghost use Rattle.std.specs.Prelude.{◌≡◌};
 ghost use Rattle.machine.specs.Parts.{toggles, toggle_on_of, toggle_off_of};
 

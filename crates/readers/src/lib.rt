@@ -1,4 +1,5 @@
-// The five readers, over the page's numbers and the two slices. None changes anything, and none has a requires.
+// The five readers, over the page's numbers, W and the two slices, which stand side by side as a host lends them. None
+// changes anything, and none has a requires.
 #![tactic(auto)]
 
 ghost use Rattle.std.specs.Prelude.{◌≡◌};

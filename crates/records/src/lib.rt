@@ -1,5 +1,5 @@
-// An event and its two spellings: a record of 8 bytes, which is a two-byte mark, worker, code, then a and b as two bytes
-// each, low first; and five words. No public function has a requires: any bytes, at any place, and any words.
+// An event and its two spellings: a record of 8 bytes, which is a two-byte mark, worker, code, then a and b as two
+// bytes each, low first; and five words. No public function has a requires: any bytes, at any place, and any words.
 #![tactic(auto)]
 
 ghost use Rattle.std.specs.Prelude.{◌≡◌, ◌+◌, ◌*◌, ◌≤◌, length};

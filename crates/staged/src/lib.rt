@@ -1,5 +1,6 @@
 // Requests 6 to 12: their start, and one function for each stage of a move, over one worker's record and what the
-// workers share. No public function has a requires: each refuses by document 01's numbers, and a refusal changes nothing.
+// workers share. No public function has a requires: each refuses by document 01's numbers, and a refusal changes
+// nothing.
 #![tactic(auto)]
 
 ghost use Rattle.std.specs.Prelude.{◌≡◌};

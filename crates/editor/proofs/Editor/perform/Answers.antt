@@ -1,5 +1,5 @@
 -- The words of the records that were decoded, and then what their run came to.
-use Rattle.std.proofs.Common.{arith, length-take-le}
+use Rattle.std.proofs.Common.{arith, length-take}
 use Rattle.editor.proofs.Performing.{filled-holds, filled-room}
 use Rattle.editor.proofs.Editor.perform.Goals as goal
 
@@ -11,4 +11,4 @@ shared_ref_as_front-events c = omega (arith, filled-room _ _ c.fill-filled.ensur
 
 pub returns-clause-records_in_bounds : goal.returns-clause-records_in_bounds
 returns-clause-records_in_bounds c =
-    omega (arith, (filled-holds _ _ c.fill-filled.ensures).used, length-take-le c.args.got c.args.self.now.bytes c.requires)
+    omega (arith, (filled-holds _ _ c.fill-filled.ensures).used, length-take c.min.result c.args.self.now.bytes)
