@@ -1,8 +1,8 @@
 // A run of events in a lent slice, with the state changed in place. No public function has a requires.
 #![tactic(auto)]
 
-ghost use Rattle.std.specs.Prelude.{◌≡◌, ◌+◌, ◌*◌, ◌<◌, ◌≤◌, length, set};
-ghost use Rattle.machine.specs.Config.{config};
+ghost use Rattle.std.specs.Prelude.{◌≡◌, true, ◌+◌, ◌*◌, ◌<◌, ◌≤◌, length, set};
+ghost use Rattle.machine.specs.Config.{config, rules_b};
 ghost use Rattle.machine.specs.Events.{event_words, answer_words, ran, came_run, run_of, events_of};
 ghost use Rattle.events.specs.Parts.{words_at};
 
@@ -11,7 +11,7 @@ use answers::{Answer, Refusal};
 use machine::State;
 use records::EVENT_WORDS;
 
-pub mod happen;
+mod happen;
 
 // Words of an answer: number, value.
 pub const ANSWER_WORDS: usize = 2;
@@ -49,12 +49,15 @@ fn run(
     count: usize,
     answers: &mut [u64],
 )
+    requires rules { rules_b (config state.old page.old bits.old) ≡ true }
     requires events { count * event_words ≤ length events.now }
     requires answers { count * answer_words ≤ length answers.old }
     ensures { ran (config state.new page.new bits.new) answers.new ≡ run_of events.now count (ran (config state.old page.old bits.old) answers.old) }
 {
+    let layout = state.layout();
+    let w = state.w;
     for k in 0..count {
-        let answer = happen(state, page, bits, read(events, k));
+        let answer = happen(state, layout, w, page, bits, read(events, k));
         put(answers, k, Answer::from(answer));
     }
 }

@@ -3,6 +3,9 @@ use Prim.Native.Nat.{ℕ}
 use mathlib.Core.Path.{◌≡◌, refl, sym, ap, ◌∙◌}
 use mathlib.Core.Bool.{Bool, true, false, cond}
 use mathlib.Core.List.{List, [], ◌∷◌}
+use lib.ListN.{get_or}
+use Rattle.answers.specs.declared.Answer.{Answer}
+use Rattle.host.specs.Calls.{held, gave, written, in_words}
 use Rattle.answers.specs.Numbers.{done, bad_page}
 use Rattle.answers.specs.Rows.{first, Outcome, outcome, refused}
 use Rattle.machine.specs.Config.{Config, rules_b}
@@ -39,3 +42,14 @@ module _ (c : Config) (w code a b : ℕ) where
       go : (k : Bool) → rules_b c ≡ k → (cond k (outcome done 1 (answered (request_of c w code a b))) (refused bad_page (ran c (bad_page ∷ 0 ∷ [])))).after ≡ answered (request_of c w code a b)
       go true e = refl
       go false e = sym (ap answered (request-refused e))
+
+  -- and so are the words that are left
+  pub request-in-words : (words : List ℕ) (d : Config) (answers : List ℕ) {r : Answer} {after : List ℕ}
+      → r ≡ record { number = get_or answers 0 0; value = get_or answers 1 0 } → after ≡ written words (get_or answers 0 0) d.state
+      → ran d answers ≡ answered (request_of c w code a b) → gave r after d.page d.bits ≡ in_words words (request_of c w code a b)
+  request-in-words words d answers p q e =
+      simp (p, q)
+      (ap
+      (λ (x : Run).
+      outcome (get_or x.answers 0 0) (get_or x.answers 1 0) (held (written words (get_or x.answers 0 0) x.config.state) x.config.page x.config.bits))
+      e)

@@ -3,12 +3,11 @@
 #![tactic(auto)]
 
 ghost use Rattle.std.specs.Prelude.{◌≡◌};
-ghost use Rattle.answers.specs.Refusals.{progress};
-ghost use Rattle.machine.specs.Config.{lent_of, fresh_of};
+ghost use Rattle.machine.specs.Config.{config, lent_of, fresh_of};
 ghost use Rattle.machine.specs.Requests.{request_of};
 ghost use Rattle.machine.specs.Moves.{move_of};
 ghost use Rattle.machine.specs.Switch.{switch_on_of, switch_off_of};
-ghost use Rattle.machine.specs.Events.{flag_of, ran, events_of};
+ghost use Rattle.machine.specs.Events.{flag_of, came_run, ran, events_of};
 ghost use Rattle.machine.specs.Readers.{listed_count_of, first_unlisted_of, entry_answer_of, compare_of};
 ghost use Rattle.host.specs.Spelling.{spelled};
 ghost use Rattle.host.specs.Calls.{gave, holding, written, in_words, fresh_in_words, gave_run, run_in_words};
@@ -17,22 +16,37 @@ use crate::spelling::{W, layout, load, store};
 use answers::{Answer, Refusal};
 use machine::State;
 use page::Layout;
+use records::Kind;
 
 mod spelling;
 
 // How many words spell a state.
 pub const STATE_WORDS: usize = 70;
 
-// Writes the state unless the call was refused, and tells its answer.
+// Writes the state unless the number refuses, and hands the answer on.
 #[tactic(auto, unfolding(crate::specs::Calls::written))]
-fn finish(words: &mut [u64; STATE_WORDS], s: State, told: Result<Option<u64>, Refusal>) -> Answer
-    ensures answer { result ≡ progress told }
-    ensures words { words.new ≡ written words.old (progress told).number s }
+fn finish(words: &mut [u64; STATE_WORDS], s: &State, told: Answer) -> Answer
+    ensures answer { result ≡ told }
+    ensures words { words.new ≡ written words.old told.number s.now }
 {
-    if told.is_ok() {
+    if told.number < u64::from(Refusal::BadPage) {
         store(words, s);
     }
-    Answer::from(told)
+    told
+}
+
+// Runs events on a state. Requests and runs meet here, so that the machine's events have one caller, and the compiler one
+// copy of them to put in place.
+fn run(
+    s: &mut State,
+    page: &mut [u64],
+    bits: &mut [u64],
+    events: &[u64],
+    answers: &mut [u64],
+) -> Result<u64, Refusal>
+    ensures { came_run result s.new page.new bits.new answers.new ≡ events_of (ran (config s.old page.old bits.old) answers.old) events.now }
+{
+    events::events(s, page, bits, events, answers)
 }
 
 // A fresh start over a zeroed bitmap. It reads no word of state; refused, it writes 0 to all of them and to nothing
@@ -51,12 +65,12 @@ pub extern "C" fn albmerik_fresh(
     let made = machine::fresh::fresh(Layout { n, bw }, w, page, bits);
     store(
         state,
-        made.unwrap_or(State::at_rest(Layout { n: 0, bw: 0 }, 0)),
+        &made.unwrap_or(State::at_rest(Layout { n: 0, bw: 0 }, 0)),
     );
     Answer::from(made.map(|_| 0))
 }
 
-// A request of a worker, by its code.
+// A request of a worker, by its code: a run of one event. What the run writes, or leaves as the refusal by 2, is the answer.
 #[unsafe(no_mangle)]
 pub extern "C" fn albmerik_request(
     state: &mut [u64; STATE_WORDS],
@@ -70,8 +84,11 @@ pub extern "C" fn albmerik_request(
     ensures { gave result state.new page.new bits.new ≡ in_words state.old (request_of (holding state.old page.old bits.old) worker code a b) }
 {
     let mut s = load(state);
-    let told = machine::request::request(&mut s, worker, code, a, b, page, bits);
-    finish(state, s, told)
+    let event = [u64::from(Kind::Request), worker, code, a, b];
+    let mut answer = [u64::from(Refusal::BadPage), 0];
+    let _ = run(&mut s, page, bits, &event, &mut answer);
+    let [number, value] = answer;
+    finish(state, &s, Answer { number, value })
 }
 
 // A move of a worker; any flag but 0 is set.
@@ -87,7 +104,7 @@ pub extern "C" fn albmerik_move(
 {
     let mut s = load(state);
     let told = machine::moves::make_move(&mut s, worker, flag != 0, page, bits);
-    finish(state, s, told)
+    finish(state, &s, Answer::from(told))
 }
 
 // T switched on.
@@ -97,7 +114,7 @@ pub extern "C" fn albmerik_on(state: &mut [u64; STATE_WORDS], page: &[u64], bits
 {
     let mut s = load(state);
     let told = machine::switch::switch_on(&mut s, page, bits);
-    finish(state, s, told.map(Some))
+    finish(state, &s, Answer::from(told))
 }
 
 // T switched off.
@@ -107,7 +124,7 @@ pub extern "C" fn albmerik_off(state: &mut [u64; STATE_WORDS], page: &[u64], bit
 {
     let mut s = load(state);
     let told = machine::switch::switch_off(&mut s, page, bits);
-    finish(state, s, told.map(Some))
+    finish(state, &s, Answer::from(told))
 }
 
 // A run of events, each one's answer in its place.
@@ -122,8 +139,8 @@ pub extern "C" fn albmerik_events(
     ensures { gave_run result state.new page.new bits.new answers.new ≡ run_in_words state.old (events_of (ran (holding state.old page.old bits.old) answers.old) events.now) }
 {
     let mut s = load(state);
-    let told = events::events(&mut s, page, bits, events, answers);
-    finish(state, s, told.map(Some))
+    let told = run(&mut s, page, bits, events, answers);
+    finish(state, &s, Answer::from(told))
 }
 
 // How many blocks are listed.

@@ -104,9 +104,9 @@ fn put_worker(words: &mut [u64], i: usize, k: Worker)
 }
 
 // Writes the words that spell a state; on becomes 0 or 1.
-pub fn store(words: &mut [u64], s: State)
+pub fn store(words: &mut [u64], s: &State)
     requires { length words.old ≡ state_words }
-    ensures { words.new ≡ words_of s }
+    ensures { words.new ≡ words_of s.now }
 {
     words[N] = s.n;
     words[BW] = s.bw;

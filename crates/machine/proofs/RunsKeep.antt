@@ -34,7 +34,7 @@ kept_then p q =
 
 -- ---- an event, and a run of them
 
-event-kept : (c : Config) (kind w code a b : ℕ) → NeverChanges c (event_of c kind w code a b).after
+pub event-kept : (c : Config) (kind w code a b : ℕ) → NeverChanges c (event_of c kind w code a b).after
 unfolding event_of
 event-kept c kind w code a b =
     pick P (eqb kind a_request) _ _ (all-kept.0 c w code a b)
@@ -44,7 +44,7 @@ event-kept c kind w code a b =
     P : Outcome Config → Type 0
     P o = NeverChanges c o.after
 
-run-kept : (events : List ℕ) (m : ℕ) (r : Run) → NeverChanges r.config (run_of events m r).config
+pub run-kept : (events : List ℕ) (m : ℕ) (r : Run) → NeverChanges r.config (run_of events m r).config
 unfolding run_of
 run-kept events zero r = kept_refl r.config
 run-kept events (suc m) r =
