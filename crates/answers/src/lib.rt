@@ -31,10 +31,10 @@ pub enum Refusal {
     Damaged = 11,
 }
 
-// The number of an operation that is done.
+// The number of an operation that is done, for C and for the words of a run.
 pub const DONE: u64 = 0;
 
-// The number of one that is under way.
+// The number of one that is under way, for the same.
 pub const UNDER_WAY: u64 = 1;
 
 // Number and value, as C and the words of a run of events are handed them.

@@ -20,7 +20,7 @@ fn ones_to(word: u64, k: u64) -> u64
     ones_of(word & (!0 >> (63 - k)))
 }
 
-// Word w, with bit 0 of the bitmap clear.
+// Word w, with bit 0 of the bitmap clear. Its like that sets the bit has another operator.
 fn without_zero(bits: &[u64], w: u64) -> u64
     ensures { result ≡ get_or (bit_put bits.now 0 0) w 0 }
 {

@@ -28,7 +28,7 @@ pub fn any_set(bits: &[u64], a: u64, b: u64) -> bool
     false
 }
 
-// Sets every bit of the run.
+// Sets every bit of the run. What it has in common with the test, how far a run reaches, is `reach`.
 pub fn set_run(bits: &mut [u64], a: u64, b: u64)
     ensures { bits.new ≡ put_run bits.old a (run_length a b) 1 }
 {

@@ -1,5 +1,5 @@
-// One event: a request or a move of a worker, or T switched. The page rules are tested before, once for a run, whose page
-// numbers and W are handed in: the state is changed in between, and to read them from it at each event is slower.
+// One event: a request or a move of a worker, or T switched. The page rules are tested before, once for a run, whose
+// page numbers and W are handed in: the state is changed in between, and to read them from it at each event is slower.
 ghost use Rattle.std.specs.Prelude.{◌≡◌, true, cond, eqb};
 ghost use Rattle.answers.specs.Numbers.{no_worker};
 ghost use Rattle.answers.specs.Rows.{refused};
@@ -56,6 +56,7 @@ fn other(
         (event_of (config state.old page.old bits.now) (kind_number e.kind) e.worker e.code e.a e.b) }
 {
     match e.kind {
+        // none comes here; it would be that of no worker
         Kind::Request => Err(Refusal::NoWorker),
         Kind::Move => make_move(state, e.worker, e.code != 0, page, bits),
         Kind::On => switch_on(state, page, bits).map(Some),

@@ -16,7 +16,7 @@ mod happen;
 // Words of an answer: number, value.
 pub const ANSWER_WORDS: usize = 2;
 
-// Writes answer k.
+// Writes answer k, each word to its place.
 fn put(answers: &mut [u64], k: usize, answer: Answer)
     requires { k * answer_words + 1 < length answers.old }
     ensures { answers.new ≡ set (set answers.old (k * answer_words) answer.number) (k * answer_words + 1) answer.value }
@@ -25,7 +25,7 @@ fn put(answers: &mut [u64], k: usize, answer: Answer)
     answers[k * ANSWER_WORDS + 1] = answer.value;
 }
 
-// The words of event k.
+// The words of event k, each from its place.
 fn read(events: &[u64], k: usize) -> [u64; EVENT_WORDS]
     requires { k * event_words + 4 < length events.now }
     ensures { result ≡ words_at events.now k }

@@ -35,8 +35,8 @@ fn finish(words: &mut [u64; STATE_WORDS], s: &State, told: Answer) -> Answer
     told
 }
 
-// Runs events on a state. Requests and runs meet here, so that the machine's events have one caller, and the compiler one
-// copy of them to put in place.
+// Runs events on a state. Requests and runs meet here, so that the machine's events have one caller, and the compiler
+// one copy of them to put in place.
 fn run(
     s: &mut State,
     page: &mut [u64],
@@ -50,7 +50,7 @@ fn run(
 }
 
 // A fresh start over a zeroed bitmap. It reads no word of state; refused, it writes 0 to all of them and to nothing
-// else.
+// else. n, bw and w stand side by side, as C hands them.
 #[unsafe(no_mangle)]
 pub extern "C" fn albmerik_fresh(
     state: &mut [u64; STATE_WORDS],
@@ -70,7 +70,8 @@ pub extern "C" fn albmerik_fresh(
     Answer::from(made.map(|_| 0))
 }
 
-// A request of a worker, by its code: a run of one event. What the run writes, or leaves as the refusal by 2, is the answer.
+// A request of a worker, by its code: a run of one event. What the run writes, or leaves as the refusal by 2, is the
+// answer.
 #[unsafe(no_mangle)]
 pub extern "C" fn albmerik_request(
     state: &mut [u64; STATE_WORDS],

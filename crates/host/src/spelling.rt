@@ -40,7 +40,7 @@ pub fn layout(words: &[u64; STATE_WORDS]) -> Layout
     }
 }
 
-// Reads worker i's record.
+// Reads worker i's record, each word from its place in the header.
 fn worker_at(words: &[u64; STATE_WORDS], i: usize) -> Worker
     requires { i < max_workers }
     ensures { result ≡ worker_at words.now i }

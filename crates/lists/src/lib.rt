@@ -1,6 +1,7 @@
 // Upstream's LL over two heads and the two lent slices. Each method takes the page's numbers and the slices, and
 // changes the heads in place. No public function has a requires: each refuses by document 01's numbers, the smallest
-// first, and a refusal changes nothing.
+// first, and a refusal changes nothing. Page and bitmap are lent apart, since each call writes one of them, both or
+// none.
 #![tactic(auto)]
 
 ghost use Rattle.std.specs.Prelude.{◌≡◌};
@@ -35,7 +36,7 @@ pub struct Heads {
 }
 
 impl Heads {
-    // Puts block a at the front of own: its link becomes the old head, and its bit is set.
+    // Puts block a at the front of own: its link becomes the old head, and its bit is set. Done has value 0.
     pub fn insert_block(
         &mut self,
         layout: Layout,
@@ -163,7 +164,7 @@ impl Heads {
         Ok(met.count)
     }
 
-    // Answers 1 if own is empty, else 0. It looks at the head alone.
+    // Answers 1 if own is empty, else 0, document 01's values. It looks at the head alone.
     pub fn is_empty(&self, layout: Layout, page: &[u64], bits: &[u64]) -> Result<u64, Refusal>
         ensures { came layout.n layout.bw result self.now page.now bits.now
             ≡ empty_of (lists self.now.own self.now.got layout.n layout.bw page.now bits.now) }

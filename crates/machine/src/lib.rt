@@ -1,5 +1,6 @@
 // The whole machine over a State, the page and the bitmap. No public function has a requires: each refuses by document
-// 01's numbers, the smallest first, and a refusal changes nothing.
+// 01's numbers, the smallest first, and a refusal changes nothing. Page and bitmap are lent apart, as a host lends
+// them.
 #![tactic(auto)]
 
 ghost use Rattle.std.specs.Prelude.{◌≡◌};

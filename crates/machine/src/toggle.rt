@@ -6,7 +6,7 @@ ghost use Rattle.machine.specs.Parts.{toggles, toggle_on_of, toggle_off_of};
 use answers::Refusal;
 use words::{masked_ptr_delay_get_delay, masked_ptr_delay_get_ptr};
 
-// Switches T on; its word becomes 0.
+// Switches T on; its word becomes 0. Done has value 0.
 #[tactic(auto, unfolding(crate::specs::Parts::toggle_on_of))]
 pub fn toggle_on(tagged: &mut u64, on: &mut bool) -> Result<u64, Refusal>
     ensures { toggles result tagged.new on.new ≡ toggle_on_of tagged.old on.old }

@@ -10,7 +10,7 @@ pub fn is_one_of<const N: usize>(x: u64, of: [u64; N]) -> bool
     of.contains(&x)
 }
 
-// A number where a test holds, else 0.
+// A number where a test holds, else 0: a field of a record that an operation does not use.
 pub fn only_if(test: bool, a: u64) -> u64
     ensures { result ≡ cond test a 0 }
 {

@@ -34,7 +34,7 @@ pub const SWAPPING: u64 = 4;
 
 pub const MASKING: u64 = 5;
 
-// A worker's record.
+// A worker's record: eight words, own and got among them, as a host spells it.
 #[derive(Clone, Copy, Debug, PartialEq, Eq)]
 pub struct Worker {
     pub own: u64,
@@ -112,7 +112,7 @@ pub fn on_tagged(operation: u64) -> bool
     PUSH_TAGGED <= operation && operation <= AWAIT_TAG
 }
 
-// Its head word: S or T.
+// Its head word: S or T, of which the struct that has both stands above this crate.
 #[tactic(auto, unfolding(crate::specs::Operations::word_of))]
 pub fn word_of(operation: u64, shared: u64, tagged: u64) -> u64
     ensures { result ≡ word_of operation shared tagged }

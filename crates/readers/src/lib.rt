@@ -80,7 +80,8 @@ pub fn entry_answer(
     Ok(0)
 }
 
-// How many words are equal before the first that differ.
+// How many words are equal before the first that differ. A chain of `zip`, `take_while` and `count` was not found to be
+// the definition, which goes word by word.
 fn equal_leading(x: &[u64], y: &[u64]) -> u64
     ensures { result ≡ equal_leading x.now y.now }
 {

@@ -42,7 +42,7 @@ pub enum Stop {
     NoRoom,
 }
 
-// How many records were decoded, and why no more.
+// How many records were decoded, and why no more: a fill has both.
 #[derive(Clone, Copy, Debug, PartialEq, Eq)]
 pub struct Filled {
     pub records: usize,

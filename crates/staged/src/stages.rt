@@ -1,7 +1,7 @@
 // One function for each stage of a move: what it makes of the record, the two head words and, at write, the page. It
 // gives the value where the operation ends, and None while it is under way. What some of them require, the page rules
 // and the damage test give.
-ghost use Rattle.std.specs.Prelude.{◌≡◌, Bool, List, ℕ, Ok, Some, None, ◌≤◌};
+ghost use Rattle.std.specs.Prelude.{◌≡◌, List, ℕ, Ok, Some, None, ◌≤◌};
 ghost use Rattle.page.specs.Limits.{max_blocks, max_width};
 ghost use Rattle.page.specs.Page.{Lent, lent};
 ghost use Rattle.staged.specs.declared.Common.{Common};
