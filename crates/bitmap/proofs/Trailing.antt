@@ -7,15 +7,15 @@ use Prim.Native.Nat.{ℕ, zero, suc, ◌+◌, ◌-◌, ◌*◌, ◌/◌, ◌%◌
 use native.Mathlib.Nat.{add-zero, add-suc, suc-add, le_of_suc-le-suc, not-suc-le-zero}
 use native.Mathlib.Decide.{dec_lt, dec_le, ℕ_discrete}
 use native.Mathlib.Omega.{arith}
-use borrow.Author.Tests.{le-leb, lt-leb}
-use Rattle.std.proofs.Common.{Option, Some, None, MatchOption}
+use borrow.Author.Tests.{le-leb, lt-leb, ne_eqb}
+use Rattle.std.proofs.Common.{Option, Some, None}
 use lib.Dec.{leb}
 use lib.ListN.{get_or}
 use lib.Count.{count_trailing_zeros, under, trailing_le}
 use Rattle.words.specs.Digits.{digit}
 use Rattle.words.proofs.Digits.{digit_lt, half-digit, first-digit, put_same, put_other}
 use Rattle.words.proofs.Masks.{not_digit}
-use Rattle.bitmap.specs.Bitmap.{bit_at, when_clear, with_zero, first_from, first_unlisted, FirstClear}
+use Rattle.bitmap.specs.Bitmap.{bit_at, when_clear, with_zero, first_from, first_unlisted, found, FirstClear}
 use Rattle.bitmap.proofs.Bits.{bit-lt}
 use Rattle.bitmap.proofs.Equal.{at-word}
 
@@ -131,16 +131,16 @@ first-all bits n s = from-none bits 1 n (λ j h. s (1 + j) (omega arith) (omega 
 
 -- both in one: that block if it is at most n
 pub first-within : (bits : List ℕ) (n i : ℕ) (r : Option ℕ) → Smallest bits i → r ≡ cond (leb i n) (Some i) None
-    → MatchOption r (first_unlisted bits n ≡ 0) (λ j. (j ≡ first_unlisted bits n) × (j ≢ 0))
+    → r ≡ found (first_unlisted bits n)
 first-within bits n i r s e = pick (dec_le i n)
   where
-    pick : Dec (i ≤ n) → MatchOption r (first_unlisted bits n ≡ 0) (λ j. (j ≡ first_unlisted bits n) × (j ≢ 0))
+    pick : Dec (i ≤ n) → r ≡ found (first_unlisted bits n)
     pick (yes l) =
         let q : r ≡ Some i = e ∙ simp (le-leb i n l) in
-        rw q (sym (first-is bits n i s l), λ z. omega (arith, s.pos))
+        q ∙ sym (ap found (first-is bits n i s l) ∙ simp (ne_eqb i 0 (λ z. omega (arith, s.pos))))
     pick (no g) =
         let q : r ≡ None = e ∙ simp (lt-leb i n (omega arith)) in
-        rw q (first-all bits n (λ j p l. s.before j p (omega arith)))
+        q ∙ sym (ap found (first-all bits n (λ j p l. s.before j p (omega arith))))
 
 -- one of the two is so
 either : (bits : List ℕ) (n : ℕ) → SetBelow bits (n + 1) ⊎ ((i : ℕ) × Smallest bits i × i ≤ n)

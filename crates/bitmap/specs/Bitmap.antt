@@ -1,5 +1,5 @@
 -- A bitmap is a list of words of 64 bits: block i is bit i mod 64 of word i / 64 (document 01, The page).
-use Rattle.std.specs.Prelude.{◌≡◌, Bool, false, ◌||◌, List, ℕ, zero, suc, ◌+◌, ◌-◌, ◌/◌, ◌%◌, ◌^◌, ◌<◌, ◌≤◌, min, eqb, get_or, set}
+use Rattle.std.specs.Prelude.{◌≡◌, Bool, false, ◌||◌, cond, List, Option, Some, None, ℕ, zero, suc, ◌+◌, ◌-◌, ◌/◌, ◌%◌, ◌^◌, ◌<◌, ◌≤◌, min, eqb, get_or, set}
 use Rattle.words.specs.Digits.{digit, put_digit}
 
 -- bit i; 0 past the end
@@ -32,6 +32,10 @@ first_from bits i (suc m) = when_clear (bit_at bits i) i (first_from bits (suc i
 -- the smallest of 1 to n whose bit is clear; 0 if there is none (document 01, Requests: first unlisted)
 abbrev pub first_unlisted : List ℕ → ℕ → ℕ
 first_unlisted bits n = first_from bits 1 n
+
+-- a block that was found; 0 is none
+abbrev pub found : ℕ → Option ℕ
+found i = cond (eqb i 0) None (Some i)
 
 -- word w, with bit 0 of the bitmap set
 unfoldable pub with_zero : List ℕ → ℕ → ℕ

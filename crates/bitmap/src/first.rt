@@ -1,6 +1,6 @@
 // The first unlisted block: full words are stepped over, then the trailing ones of a word counted.
-ghost use Rattle.std.specs.Prelude.{◌≡◌, ◌≢◌, Some, None, MatchOption, cond, leb};
-ghost use Rattle.bitmap.specs.Bitmap.{first_unlisted, with_zero, FirstClear};
+ghost use Rattle.std.specs.Prelude.{◌≡◌, Some, None, cond, leb};
+ghost use Rattle.bitmap.specs.Bitmap.{first_unlisted, found, with_zero, FirstClear};
 
 use crate::word_at;
 
@@ -31,7 +31,7 @@ fn within(i: u64, n: u64) -> Option<u64>
 
 // The smallest of 1 to n whose bit is clear, if there is one. Past the slice's end every bit is clear.
 pub fn first_unlisted(bits: &[u64], n: u64) -> Option<u64>
-    ensures { MatchOption result (first_unlisted bits.now n ≡ 0) (λ i. (i ≡ first_unlisted bits.now n) × (i ≢ 0)) }
+    ensures { result ≡ found (first_unlisted bits.now n) }
 {
     for w in 0..=n >> 6 {
         let k = first_clear(with_zero(bits, w));

@@ -43,7 +43,7 @@ const ANSWERS: usize = ANSWER_WORDS * RECORDS;
 // A proved loop has to end, and nothing says that the input does: it is read at most so often, more than any run does.
 const READS: u64 = 1 << 60;
 
-// The machine on its page, and the room for the records of one read.
+// The machine on its page, and the room for the records of one read. No event changes the page's numbers.
 #[derive(Drop)]
 struct Editor {
     state: State,
@@ -53,6 +53,9 @@ struct Editor {
     events: [u64; EVENTS],
     answers: [u64; ANSWERS],
     text: Text,
+    ghost blocks: { state.n ≡ 63 },
+    ghost block_words: { state.bw ≡ 4 },
+    ghost workers: { state.w ≡ 8 },
 }
 
 fn main(rt: HostRuntime) -> Result<()> {
@@ -111,10 +114,16 @@ impl Editor {
     fn perform(&mut self, got: usize) -> Filled
         ensures answers_after { performed result.records (Some result.stop) (config self.new.state self.new.page self.new.bits) self.new.answers ≡ perform_of (config self.old.state self.old.page self.old.bits) (take got self.old.bytes) self.old.events self.old.answers }
         ensures records_in_bounds { 8 * result.records ≤ got }
+        ensures bytes_stay { self.new.bytes ≡ self.old.bytes }
+        ensures text_stays { self.new.text ≡ self.old.text }
     {
         let room = self.bytes.len();
         let filled = records::fill(&self.bytes[..got.min(room)], &mut self.events);
         let words = EVENT_WORDS * filled.records;
+        // They have these values already. Written here, they are known to the compiler through the run.
+        self.state.n = BLOCKS;
+        self.state.bw = BLOCK_WORDS;
+        self.state.w = WORKERS;
         // The count is that of the records, and a refused run is one that `perform_of` tells of too.
         let _ = events::events(
             &mut self.state,

@@ -28,7 +28,9 @@ pub struct Text {
 
 impl Text {
     // No text.
-    pub fn new() -> Text {
+    pub fn new() -> Text
+        ensures { result.end ≡ 0 }
+    {
         Text {
             room: [0; ROOM],
             end: 0,

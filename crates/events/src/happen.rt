@@ -42,8 +42,7 @@ pub fn happen(
     ask(k, layout, on, page, bits, e.code, e.a, e.b)
 }
 
-// A move, or T switched: apart, so that a run's loop holds the requests alone.
-#[inline(never)]
+// A move, or T switched.
 #[tactic(auto, unfolding(machine::specs::Events::event_of))]
 fn other(
     state: &mut State,

@@ -9,7 +9,7 @@ ghost use Rattle.events.specs.Parts.{words_at};
 use crate::happen::happen;
 use answers::{Answer, Refusal};
 use machine::State;
-use records::EVENT_WORDS;
+pub use records::EVENT_WORDS;
 
 mod happen;
 

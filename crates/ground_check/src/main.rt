@@ -1,7 +1,7 @@
 // Worked examples of words and bits, run and proved: document 01's P2 and P3, refusals, and the edges of a bitmap.
 #![tactic(auto, unfolding(words::specs::Digits::digit, words::specs::Digits::put_digit, words::specs::Tagged::set_ptr_of, words::specs::Tagged::set_delay_of, bitmap::specs::Bitmap::bit_at, bitmap::specs::Bitmap::bit_put, bitmap::specs::Bitmap::listed_count, bitmap::specs::Bitmap::first_from, bitmap::specs::Bitmap::any_from, bitmap::specs::Bitmap::put_run))]
 
-use answers::Refusal;
+use answers::{Answer, Refusal};
 use bitmap::count::listed_count;
 use bitmap::first::first_unlisted;
 use bitmap::runs::{any_set, set_run};
@@ -31,14 +31,26 @@ fn splits() {
 // A tag (P3: 1 on 98) or an address put into a word.
 fn joins() {
     expect(words::masked_ptr_delay_set_freeing(98) == 97);
-    expect(words::masked_ptr_delay_set_delay(98, 3) == Ok(99));
-    expect(words::masked_ptr_delay_set_ptr(99, 64) == Ok(67));
+    let tagged = words::masked_ptr_delay_set_delay(98, 3);
+    expect(tagged == Ok(99));
+    expect(Answer::from(tagged).number == 0);
+    expect(Answer::from(tagged).value == 99);
+    let moved = words::masked_ptr_delay_set_ptr(99, 64);
+    expect(moved == Ok(67));
+    expect(Answer::from(moved).number == 0);
+    expect(Answer::from(moved).value == 67);
 }
 
 // A tag above 3, and an address that is no multiple of 4.
 fn refusals() {
-    expect(words::masked_ptr_delay_set_delay(98, 4) == Err(Refusal::NoSuch));
-    expect(words::masked_ptr_delay_set_ptr(97, 98) == Err(Refusal::NoSuch));
+    let tagged = words::masked_ptr_delay_set_delay(98, 4);
+    expect(tagged == Err(Refusal::NoSuch));
+    expect(Answer::from(tagged).number == 4);
+    expect(Answer::from(tagged).value == 0);
+    let moved = words::masked_ptr_delay_set_ptr(97, 98);
+    expect(moved == Err(Refusal::NoSuch));
+    expect(Answer::from(moved).number == 4);
+    expect(Answer::from(moved).value == 0);
     expect(u64::from(Refusal::NoSuch) == 4);
 }
 

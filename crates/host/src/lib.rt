@@ -62,12 +62,9 @@ pub extern "C" fn albmerik_fresh(
 ) -> Answer
     ensures { gave result state.new page.now bits.new ≡ fresh_in_words (fresh_of n bw w page.now bits.old) }
 {
-    let made = machine::fresh::fresh(Layout { n, bw }, w, page, bits);
-    store(
-        state,
-        &made.unwrap_or(State::at_rest(Layout { n: 0, bw: 0 }, 0)),
-    );
-    Answer::from(made.map(|_| 0))
+    let (s, told) = machine::fresh::fresh_or_zero(Layout { n, bw }, w, page, bits);
+    store(state, &s);
+    Answer::from(told)
 }
 
 // A request of a worker, by its code: a run of one event. What the run writes, or leaves as the refusal by 2, is the

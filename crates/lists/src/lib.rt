@@ -165,6 +165,7 @@ impl Heads {
     }
 
     // Answers 1 if own is empty, else 0, document 01's values. It looks at the head alone.
+    #[tactic(auto, unfolding(crate::specs::Own::empty_of, crate::specs::Own::empty_refusal, crate::specs::Own::empty_act, answers::specs::Rows::first))]
     pub fn is_empty(&self, layout: Layout, page: &[u64], bits: &[u64]) -> Result<u64, Refusal>
         ensures { came layout.n layout.bw result self.now page.now bits.now
             ≡ empty_of (lists self.now.own self.now.got layout.n layout.bw page.now bits.now) }

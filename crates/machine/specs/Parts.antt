@@ -34,6 +34,10 @@ asker k l = record { worker = k; lent = l }
 abbrev pub answered : ℕ → ℕ → Result (Option ℕ) Refusal → Worker → List ℕ → List ℕ → Outcome Asker
 answered n bw r k page bits = outcome (progress r).number (progress r).value (asker k (lent n bw page bits))
 
+-- the same for a request that is never under way
+abbrev pub came_at_once : ℕ → ℕ → Result ℕ Refusal → Worker → List ℕ → List ℕ → Outcome Asker
+came_at_once n bw r k page bits = outcome (told r).number (told r).value (asker k (lent n bw page bits))
+
 -- a worker's part, and putting it back
 abbrev pub asker_of : Config → ℕ → Asker
 asker_of c w = asker (worker_of c w) (lent_of c)
@@ -97,6 +101,10 @@ of_starter x o = outcome o.number o.value (asker o.after.worker (lent x.lent.n x
 unfoldable pub ask_lists_of : Bool → Lists → ℕ → ℕ → ℕ → Outcome Lists
 ask_lists_of under l code a b =
     cond (not (arguments_fit_b l.lent.n code a b)) (refused no_such l) (cond under (refused busy l) (at_once_of l code a b))
+
+-- and what it does to the whole record: own and got alone change
+abbrev pub on_lists : Bool → Asker → ℕ → ℕ → ℕ → Outcome Asker
+on_lists under x code a b = of_lists x (ask_lists_of under (lists_in x) code a b)
 
 unfoldable pub ask_of : Bool → Asker → ℕ → ℕ → ℕ → Outcome Asker
 ask_of on x code a b =

@@ -6,13 +6,13 @@ ghost use Rattle.lists.specs.Lists.{lists, came};
 ghost use Rattle.operations.specs.Operations.{busy_b};
 ghost use Rattle.machine.specs.Table.{arguments_fit_b};
 ghost use Rattle.machine.specs.Config.{with_heads};
-ghost use Rattle.machine.specs.Parts.{asker, answered, at_once_of, ask_lists_of, ask_of, heads_in, meant, number_of, numbered};
+ghost use Rattle.machine.specs.Parts.{asker, answered, came_at_once, on_lists, at_once_of, ask_lists_of, ask_of, heads_in, meant, number_of, numbered};
 
 use answers::Refusal;
 use lists::Heads;
-use operations::{Worker, is_staged};
+use operations::{AWAIT_TAG, PUSH_SHARED, Worker, is_staged};
 use page::Layout;
-use staged::start::start;
+use staged::start::{start, start_fits};
 use std::convert::TryFrom;
 
 // The requests that act at once, by their numbers.
@@ -82,7 +82,7 @@ fn at_once(
 
 // Refused with 4 or 5, or it acts at once on own and got.
 #[tactic(auto, unfolding(crate::specs::Parts::ask_lists_of))]
-fn ask_lists(
+fn act(
     k: &mut Worker,
     layout: Layout,
     page: &mut [u64],
@@ -110,6 +110,29 @@ fn ask_lists(
     answer
 }
 
+// For a request that is none of 6 to 12, by its code: refused with 4 or 5, or it acts at once on own and got. Asked for
+// one of those, which `start` starts, it makes the tests of the table and then looks at own as 13 does.
+#[tactic(auto, unfolding(crate::specs::Parts::ask_lists_of, crate::specs::Parts::at_once_of, crate::specs::Table::arguments_fit_b, operations::specs::Operations::staged_b))]
+pub fn ask_lists(
+    k: &mut Worker,
+    layout: Layout,
+    page: &mut [u64],
+    bits: &mut [u64],
+    code: u64,
+    a: u64,
+    b: u64,
+) -> Result<u64, Refusal>
+    ensures { came_at_once layout.n layout.bw result k.new page.new bits.new ≡ on_lists (busy_b k.old) (asker k.old (lent layout.n layout.bw page.old bits.old)) code a b }
+{
+    let request = if is_staged(code) {
+        let fitting = start_fits(layout, code, a).then_some(AtOnce::AskEmpty);
+        fitting.ok_or(Refusal::NoSuch)?
+    } else {
+        AtOnce::try_from(code)?
+    };
+    act(k, layout, page, bits, request, a, b)
+}
+
 // A request, decided by its code: 1 to 5 and 13 act at once, 6 to 12 start, and there is no other.
 #[tactic(auto, unfolding(crate::specs::Parts::ask_of, crate::specs::Parts::ask_lists_of, crate::specs::Table::arguments_fit_b, operations::specs::Operations::staged_b))]
 pub fn ask(
@@ -124,10 +147,12 @@ pub fn ask(
 ) -> Result<Option<u64>, Refusal>
     ensures { answered layout.n layout.bw result k.new page.new bits.new ≡ ask_of on (asker k.old (lent layout.n layout.bw page.old bits.old)) code a b }
 {
-    if is_staged(code) {
-        start(k, layout, on, bits, code, a)?;
-        return Ok(None);
+    match code {
+        1..=5 | 13 => ask_lists(k, layout, page, bits, code, a, b).map(Some),
+        PUSH_SHARED..=AWAIT_TAG => {
+            start(k, layout, on, bits, code, a)?;
+            Ok(None)
+        }
+        _ => Err(Refusal::NoSuch),
     }
-    let request = AtOnce::try_from(code)?;
-    ask_lists(k, layout, page, bits, request, a, b).map(Some)
 }

@@ -1,6 +1,6 @@
 // The fresh start. No public function has a requires.
 ghost use Rattle.std.specs.Prelude.{◌≡◌};
-ghost use Rattle.machine.specs.Config.{came_fresh, fresh_of};
+ghost use Rattle.machine.specs.Config.{came_fresh, came_told, fresh_of};
 
 use crate::State;
 use crate::guards::rules;
@@ -17,4 +17,20 @@ pub fn fresh(layout: Layout, w: u64, page: &[u64], bits: &mut [u64]) -> Result<S
     }
     bits.fill(0);
     Ok(State::at_rest(layout, w))
+}
+
+// The same with the state beside the answer, for a host that keeps one either way: refused, its numbers are all 0.
+#[tactic(auto, unfolding(crate::specs::Config::fresh_of))]
+pub fn fresh_or_zero(
+    layout: Layout,
+    w: u64,
+    page: &[u64],
+    bits: &mut [u64],
+) -> (State, Result<u64, Refusal>)
+    ensures { came_told result.1 result.0 page.now bits.new ≡ fresh_of layout.n layout.bw w page.now bits.old }
+{
+    match fresh(layout, w, page, bits) {
+        Ok(state) => (state, Ok(0)),
+        Err(refusal) => (State::at_rest(Layout { n: 0, bw: 0 }, 0), Err(refusal)),
+    }
 }

@@ -1,5 +1,5 @@
 -- Where an entry lies, and the comparison of words. Assumes nothing.
-use Prim.Native.Nat.{ℕ, suc, ◌+◌, ◌-◌, ◌≤◌, ◌<◌}
+use Prim.Native.Nat.{ℕ, suc, ◌+◌, ◌-◌, ◌≤◌, ◌<◌, min}
 use mathlib.Core.Path.{◌≡◌, refl, sym, ap, ◌∙◌}
 use mathlib.Core.Logic.{◌≢◌}
 use mathlib.Core.Bool.{not}
@@ -7,6 +7,7 @@ use mathlib.Core.List.{List, []}
 use native.Mathlib.Omega.{arith}
 use native.Mathlib.Nat.{mul-le-mul, mul-le-mul_right}
 use native.Mathlib.Numerals.{add-one}
+use native.Mathlib.Decide.{dec_lt}
 use lib.ListN.{length, get_or, take, drop, drop_of_length-le}
 use lib.Seq.{drop-cons}
 use borrow.Author.Tests.{eq-eqb, ne_eqb, not-false}
@@ -90,6 +91,14 @@ module _ (xs ys : List ℕ) (i : ℕ) where
   pub leading-end' : i < length xs → length ys ≤ i → leading_from ≡ 0
   unfolding equal_leading
   leading-end' l h = simp (drop-cons xs i 0 l, drop_of_length-le ys h)
+
+  -- so past the end of either
+  pub leading-past : min (length xs) (length ys) ≤ i → leading_from ≡ 0
+  leading-past h = pick (dec_lt i (length xs))
+    where
+      pick : Dec (i < length xs) → leading_from ≡ 0
+      pick (yes l) = leading-end' l (omega arith)
+      pick (no g) = leading_end (omega arith)
 
   -- two that differ are no more
   pub leading-stop : i < length xs → i < length ys → get_or xs i 0 ≢ get_or ys i 0 → leading_from ≡ 0

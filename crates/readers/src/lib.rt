@@ -85,12 +85,13 @@ pub fn entry_answer(
 fn equal_leading(x: &[u64], y: &[u64]) -> u64
     ensures { result ≡ equal_leading x.now y.now }
 {
-    for (i, p) in x.iter().enumerate() {
-        if y.len() <= i || *p != y[i] {
+    let both = x.len().min(y.len());
+    for i in 0..both {
+        if x[i] != y[i] {
             return i as u64;
         }
     }
-    x.len() as u64
+    both as u64
 }
 
 // Whether both entries may be read: 2, 4 or 9 where one may not, the smallest first. For one and for two blocks the

@@ -4,4 +4,3 @@ pub mod Filling
 pub mod Carried
 pub mod Example
 pub mod Marks
-pub mod Putting

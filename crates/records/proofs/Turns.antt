@@ -26,7 +26,7 @@ stays bytes words t s zero u e = let z : u ≡ t = omega arith in ap (λ (x : �
 stays bytes words t s (suc m) zero e = absurd (omega arith)
 stays bytes words t s (suc m) (suc u) e = ap (next bytes) (stays bytes words t s m u (omega arith)) ∙ next-stopped bytes (fill_in bytes t words) s
 
--- a turn of the code, made turned-is k that did not stop
+-- a turn of the code, made behind k that did not stop
 module _ (bytes words₀ : List ℕ) (k : ℕ) (words : List ℕ) (same : fill_in bytes k words₀ ≡ filling k going words) where
   -- it goes on or stops
   pub turned-is : {f : Filling} → f ≡ next bytes (filling k going words) → fill_in bytes (k + 1) words₀ ≡ f

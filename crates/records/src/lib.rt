@@ -62,6 +62,7 @@ impl From<Kind> for u64 {
     }
 }
 
+// The marks are SU, MV, EN and DI, here as numbers of two bytes in the order in which they stand.
 impl TryFrom<[u8; 2]> for Kind {
     type Error = Stop;
 
@@ -69,11 +70,11 @@ impl TryFrom<[u8; 2]> for Kind {
 
     #[tactic(auto, unfolding(crate::specs::Records::kind_of, crate::specs::Records::is_mark, answers::specs::Rows::all, answers::specs::Rows::first))]
     fn try_from(mark: [u8; 2]) -> Result<Kind, Stop> {
-        match &mark {
-            b"SU" => Ok(Kind::Request),
-            b"MV" => Ok(Kind::Move),
-            b"EN" => Ok(Kind::On),
-            b"DI" => Ok(Kind::Off),
+        match u16::from_be_bytes(mark) {
+            0x5355 => Ok(Kind::Request),
+            0x4D56 => Ok(Kind::Move),
+            0x454E => Ok(Kind::On),
+            0x4449 => Ok(Kind::Off),
             _ => Err(Stop::Unknown),
         }
     }
@@ -131,19 +132,16 @@ pub fn decode(bytes: &[u8], at: usize) -> Result<Event, Stop>
     })
 }
 
-// Writes an event's five words from to on.
+// Writes an event's five words from to on, each to its place: a copy of five words is slower.
 fn put(words: &mut [u64], to: usize, event: Event)
     requires { to + 5 ≤ length words.old }
     ensures { words.new ≡ put_event words.old to (words_of event) }
 {
-    let five = [
-        u64::from(event.kind),
-        event.worker,
-        event.code,
-        event.a,
-        event.b,
-    ];
-    words[to..to + EVENT_WORDS].copy_from_slice(&five);
+    words[to] = u64::from(event.kind);
+    words[to + 1] = event.worker;
+    words[to + 2] = event.code;
+    words[to + 3] = event.a;
+    words[to + 4] = event.b;
 }
 
 // Puts the event of record k behind the k before it, or says why that cannot be.

@@ -4,6 +4,7 @@
 
 mod runs;
 
+use answers::Answer;
 use check::expect;
 use page::Layout;
 use runs::{answers, tagged, word};
@@ -39,7 +40,10 @@ fn p2() {
 // Tag 1 on 98 gives 97.
 #[tactic(auto, unfolding(words::specs::Tagged::set_delay_of))]
 fn p3() {
-    expect(words::masked_ptr_delay_set_delay(98, 1) == Ok(97));
+    let tagged = words::masked_ptr_delay_set_delay(98, 1);
+    expect(tagged == Ok(97));
+    expect(Answer::from(tagged).number == 0);
+    expect(Answer::from(tagged).value == 97);
 }
 
 // Own 6, 5 and got 9, 8: append answers 2, and own is popped as 9, 8, 6, 5.

@@ -1,6 +1,6 @@
 -- A word that is not full has the smallest unlisted block, and the blocks of a full one are listed.
-use Rattle.std.proofs.Common.{arith, ℕ, subst}
-use Rattle.bitmap.specs.Bitmap.{FirstClear}
+use Rattle.std.proofs.Common.{arith, ℕ, ap, subst, sym}
+use Rattle.bitmap.specs.Bitmap.{FirstClear, found}
 use Rattle.bitmap.proofs.Trailing.{word_below, word-smallest, first-all, first-within}
 use Rattle.bitmap.proofs.first.first_unlisted.Goals as goal
 
@@ -17,4 +17,4 @@ loop-w-preserved c =
 pub returns-else-k-lt64 : goal.returns-else-k-lt64
 returns-else-k-lt64 c =
     let f = subst (λ (x : ℕ). FirstClear x c.first_clear-k.result) c.with_zero.ensures c.first_clear-k.ensures in
-    first-all c.args.bits.now c.args.n (λ j p l. word_below _ _ _ f c.loop-w.invariant j p (omega arith))
+    sym (ap found (first-all c.args.bits.now c.args.n (λ j p l. word_below _ _ _ f c.loop-w.invariant j p (omega arith))))
